@@ -1,0 +1,24 @@
+//! What lies outside the engine: where bytes come from, where they go, and a gate between the
+//! steps of its roles.
+//!
+//! Each source and each sink keeps a count of its faults, so that whoever answers for a run can
+//! show by that count that a read or a write failed.
+#![tactic(auto)]
+
+mod adapters;
+mod gates;
+mod gathering;
+mod memory;
+mod reading;
+#[cfg(test)]
+mod tests;
+mod traits;
+mod writing;
+
+pub use adapters::{StdSink, StdSource};
+pub use gates::{Gate, OpenGate};
+pub use gathering::{Gathered, PIECE, Unwritten};
+pub use memory::{MemSink, MemSource};
+pub use reading::{CHUNK, Unread, read_whole};
+pub use traits::{Failed, Sink, Source};
+pub use writing::write_whole;

@@ -1,0 +1,49 @@
+//! Sources and sinks of bytes, and what they promise.
+ghost use Rattle.std.specs.Io.{ReadsAtMost, WritesAtMost};
+ghost use Rattle.std.specs.Io.KnownBytes.{ReadConsumes, WriteAppends};
+ghost use Rattle.std.specs.Prelude.{◌≡◌, ◌<◌, ℕ, List, Option, length, Ok};
+ghost use Rattle.suri_outside.specs.Faults.{HasCause, Rose};
+
+/// A read or a write that failed.
+#[derive(Clone, Copy, Debug, PartialEq, Eq)]
+pub struct Failed;
+
+/// Where bytes come from.
+///
+/// This project's own rule: contracts see the bytes that are left, where the source tells them,
+/// and how often a read failed, a count that never falls.
+pub trait Source {
+    // The bytes that are left, where the source tells them.
+    ghost left: { Self → Option (List ℕ) };
+    // How often a read failed. It never falls.
+    ghost faults: { Self → ℕ };
+
+    /// Puts the first bytes that are left into the front of `into`, and answers how many bytes
+    /// these are: at most `into.len()`. `Ok(0)` on a buffer that isn't empty is the end of the
+    /// input. `Failed` comes only where the count of faults rose in this call, or stands at its
+    /// type's end; then no byte was taken from the source.
+    fn read(&mut self, into: &mut [u8]) -> Result<usize, Failed>
+        ensures bound { ReadsAtMost result into.new }
+        ensures bytes { ReadConsumes (left self.old) (left self.new) result into.new }
+        ensures cause { HasCause (faults self.old) (faults self.new) result };
+}
+
+/// Where bytes go.
+///
+/// This project's own rule: contracts see the bytes taken, where the sink tells them, and how
+/// often a write failed, a count that never falls.
+pub trait Sink {
+    // The bytes taken, where the sink tells them.
+    ghost taken: { Self → Option (List ℕ) };
+    // How often a write failed. It never falls.
+    ghost faults: { Self → ℕ };
+
+    /// Takes the first bytes of `piece`, and answers how many bytes these are: at most
+    /// `piece.len()`. `Failed`, and `Ok(0)` on a piece that isn't empty, come only where the count
+    /// of faults rose in this call, or stands at its type's end; then nothing was taken.
+    fn write(&mut self, piece: &[u8]) -> Result<usize, Failed>
+        ensures bound { WritesAtMost result piece.now }
+        ensures bytes { WriteAppends (taken self.old) (taken self.new) result piece.now }
+        ensures cause { HasCause (faults self.old) (faults self.new) result }
+        ensures idle { result ≡ Ok 0 → 0 < length piece.now → Rose (faults self.old) (faults self.new) };
+}
