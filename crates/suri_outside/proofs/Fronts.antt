@@ -1,5 +1,6 @@
 -- Fronts of bytes that are written in pieces: what a caller needs to join several calls.
-use Rattle.std.proofs.Common.{ℕ, ◌+◌, List, [], ◌++◌, length, take, None, Some, refl, sym, ap, ◌∙◌, subst, append_assoc, append-nil, arith, length-append}
+use Rattle.std.proofs.Common.{◌≡◌, ℕ, ◌+◌, List, [], ◌++◌, length, take, None, Some, refl, sym, ap, ◌∙◌, subst, append_assoc, append-nil, arith, length-append, ◌<◌, suc, drop, get_or, flat_map, take-append-drop, drop-cons}
+use Rattle.std.proofs.lemmas.Grind.{flat_map-append}
 use Rattle.std.specs.declared.option.Option.{Option}
 use Rattle.std.specs.Io.KnownBytes.{Appends, Keeps}
 use Rattle.std.proofs.KnownBytes.{Appends-nil, Appends-trans}
@@ -63,3 +64,12 @@ pub sent_front_of_more : (a b c : Option (List ℕ)) (waiting text line : List �
     → TakesFront a c (text ++ line)
 sent_front_of_more a b c waiting text line p q =
     subst (TakesFront a c) (sym (append_assoc p.0 waiting line) ∙ ap (λ l. l ++ line) p.2) (front_after a b c p.0 (waiting ++ line) p.1 q)
+
+-- the text of all lines is that of the lines before one, that line's, and that of the lines behind it
+pub line_by_line : {X : Type 0} (f : X → List ℕ) (lines : List X) (i : ℕ) (x : X) → i < length lines → x ≡ get_or lines i x
+    → flat_map f lines ≡ (flat_map f (take i lines) ++ f x) ++ flat_map f (drop (suc i) lines)
+line_by_line f lines i x lt is =
+    sym (ap (flat_map f) (take-append-drop i lines)) ∙ flat_map-append f (take i lines) (drop i lines)
+    ∙ ap (λ l. flat_map f (take i lines) ++ flat_map f l) (drop-cons lines i x lt)
+    ∙ ap (λ y. flat_map f (take i lines) ++ (f y ++ flat_map f (drop (suc i) lines))) (sym is)
+    ∙ sym (append_assoc (flat_map f (take i lines)) (f x) (flat_map f (drop (suc i) lines)))
