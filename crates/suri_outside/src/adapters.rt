@@ -42,7 +42,7 @@ impl<R: Read> StdSource<R> {
 impl<R: Read> Source for StdSource<R> {
     ghost left = { λ _. None };
 
-    ghost faults = { λ s. s.faults };
+    ghost faults = { read_faults };
 
     /// One read of the reader. Each of its errors, an interrupted read too, is a failure.
     fn read(&mut self, into: &mut [u8]) -> Result<usize, Failed>
@@ -97,7 +97,7 @@ impl<W: Write> StdSink<W> {
 impl<W: Write> Sink for StdSink<W> {
     ghost taken = { λ _. None };
 
-    ghost faults = { λ s. s.faults };
+    ghost faults = { write_faults };
 
     /// One write, and a flush. A failure is: a write that fails, a write that takes nothing of a
     /// piece that isn't empty, and a flush that fails. After a failed flush the writer may hold
