@@ -1,2 +1,5 @@
+pub mod Chain
 pub mod Clock
+pub mod History
 pub mod Keys
+pub mod Piece

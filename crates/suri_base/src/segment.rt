@@ -1,0 +1,50 @@
+//! The nodes that a segment pool lends out.
+ghost use Rattle.std.specs.Prelude.{◌≡◌, IfOk};
+ghost use Rattle.suri_base.specs.Chain.{piece_of, IsAlone};
+ghost use Rattle.suri_base.specs.Piece.{blank};
+
+use crate::memory::NoMemory;
+use std::alloc::Global;
+
+/// One node of a segment pool. It stands for payload bytes of one frame that wait for bytes before them.
+#[derive(Drop)]
+pub struct Segment {
+    /// The number of the frame, from 1.
+    pub no: u32,
+    /// The offset in the stream of its first byte.
+    pub first: u32,
+    /// The place of that byte in the capture's bytes.
+    pub at: u32,
+    /// How many bytes there are.
+    pub len: u32,
+    /// The greatest end of the nodes at and below it, where nodes stand in a tree; else 0.
+    pub reach: u32,
+    /// The height of the tree below it, where nodes stand in a tree; else 0.
+    pub height: u8,
+    /// The nodes before it, where nodes stand in a tree; else none.
+    pub less: Option<Box<Segment>>,
+    /// The nodes after it.
+    pub more: Option<Box<Segment>>,
+}
+
+impl Segment {
+    /// A node with all numbers 0, and without links.
+    ///
+    /// It fails only where no memory is left.
+    pub fn blank(alloc: Global) -> Result<Box<Segment>, NoMemory>
+        ensures numbers { IfOk result (λ node. piece_of node.value ≡ blank) }
+        ensures alone { IfOk result (λ node. IsAlone node.value) }
+    {
+        let node = Segment {
+            no: 0,
+            first: 0,
+            at: 0,
+            len: 0,
+            reach: 0,
+            height: 0,
+            less: None,
+            more: None,
+        };
+        Ok(Box::new(alloc, node)?)
+    }
+}

@@ -1,0 +1,68 @@
+//! A chain of nodes.
+ghost use Rattle.std.specs.Prelude.{◌≡◌, [], ◌∷◌, IsTrue, ◌↔◌, MatchOption};
+ghost use Rattle.suri_base.specs.Chain.{piece_of, IsAlone};
+
+use crate::segment::Segment;
+use std::marker::Model;
+
+/// Nodes in a chain, linked by `more`. Contracts see the list of what the nodes say, the front node's first.
+pub struct Segments {
+    head: Option<Box<Segment>>,
+}
+
+impl Model for Segments {
+    ghost use Rattle.std.specs.Prelude.{List};
+    ghost use Rattle.suri_base.specs.Piece.{Piece};
+
+    ghost Value = { List Piece };
+
+    ghost use Rattle.suri_base.specs.Chain.{pieces, IsChain};
+
+    ghost view = { λ s. pieces s.head };
+
+    ghost invariant = { λ s. IsChain s.head };
+}
+
+impl Segments {
+    /// A chain without a node.
+    pub fn new() -> Segments
+        ensures { result ≡ [] }
+    {
+        Segments { head: None }
+    }
+
+    /// Whether the chain has no node.
+    pub fn is_empty(&self) -> bool
+        ensures { IsTrue result ↔ (self.now ≡ []) }
+    {
+        self.head.is_none()
+    }
+
+    /// Puts the node in front.
+    pub fn push(&mut self, mut node: Box<Segment>)
+        requires { IsAlone node.value }
+        ensures { self.new ≡ piece_of node.value ∷ self.old }
+    {
+        node.more = self.head.take();
+        self.head = Some(node);
+    }
+
+    /// Takes the front node out, without links. `None` comes exactly where the chain is empty.
+    pub fn pop(&mut self) -> Option<Box<Segment>>
+        ensures { MatchOption result ((self.old ≡ []) × (self.new ≡ [])) (λ node. IsAlone node.value × (self.old ≡ piece_of node.value ∷ self.new)) }
+    {
+        let mut node = self.head.take()?;
+        self.head = node.more.take();
+        Some(node)
+    }
+}
+
+// The chain is taken apart in a loop: dropping its head would go one call deeper for each node.
+impl Drop for Segments {
+    fn drop(mut self) {
+        while let Some(node) = self.pop() {
+            drop(node);
+        }
+        let Segments { head: _ } = self;
+    }
+}
