@@ -1,0 +1,13 @@
+pub mod Complete
+pub mod Dates
+pub mod Indexed
+pub mod Outputs
+pub mod Padded
+pub mod PlainCounts
+pub mod PlainKeys
+pub mod PlainLaws
+pub mod PlainOne
+pub mod PlainPlaces
+pub mod PlainRoom
+pub mod Reported
+pub mod Sending

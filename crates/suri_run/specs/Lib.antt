@@ -1,0 +1,10 @@
+pub mod Address
+pub mod Decode
+pub mod FlowLine
+pub mod Index
+pub mod Notes
+pub mod Plain
+pub mod Report
+pub mod Run
+pub mod StatsLine
+pub mod Time

@@ -1,0 +1,48 @@
+//! Reads a capture from standard input, and writes its flow lines and its stats line to standard
+//! output.
+#![tactic(auto)]
+
+mod address;
+mod cause;
+mod decode;
+mod flow_line;
+mod flows;
+mod index;
+mod notes;
+mod report;
+mod serve;
+mod stats_line;
+#[cfg(test)]
+mod tests;
+mod time;
+mod top;
+mod writing;
+
+use std::env;
+use std::process::ExitCode;
+use suri_outside::{OpenGate, StdSink, StdSource};
+use top::run;
+
+fn main(rt: HostRuntime) -> ExitCode {
+    let alloc = rt.alloc();
+    let mut words = Vec::new(alloc);
+    if let Ok(args) = env::args(&rt) {
+        for word in args {
+            if words.push(word).is_err() {
+                return ExitCode::from(1);
+            }
+        }
+    }
+    let mut source = StdSource::new(rt.stdin());
+    let mut sink = StdSink::new(rt.stdout());
+    let mut notes = StdSink::new(rt.stderr());
+    let ran = run(
+        alloc,
+        words.as_slice(),
+        &mut source,
+        &mut sink,
+        &mut notes,
+        &OpenGate,
+    );
+    ExitCode::from(ran.status)
+}
