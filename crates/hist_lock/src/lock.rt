@@ -55,7 +55,7 @@ fn turn<M: Machine>(
 }
 
 impl<M: Machine> HistLock<M> {
-    // Waits for the turn.
+    // Waits for the turn, parked while another role has it.
     fn take_turn<R: Wait>(&self, rt: &R, seat: &mut LockSeat<M>)
         requires lock { IsOf (lock_id self.now) (M.fixed (made_with self.now)) (roles_of self.now) seat.old }
         requires idle { (length seat.old.me.1 ≡ 0) × (is_none seat.old.me.0.whole ≡ true) }
@@ -144,7 +144,8 @@ impl<M: Machine> HistLock<M> {
         self.give_turn(seat);
     }
 
-    // Lays back what was taken out, with an entry more, counts the entry, and gives the turn back.
+    // Lays back what was taken out, with an entry more, counts the entry, and gives the turn back. The machine is laid back
+    // first: which entry is counted is read off what the seat carries. No other thread sees the slot before the turn is given.
     fn leave_counted(&self, seat: &mut LockSeat<M>, home: Home<M, M::Note>)
         requires lock { seat.old.table_id ≡ lock_id self.now }
         requires slot { seat.old.me.1 ≡ (0, None) ∷ [] }

@@ -25,6 +25,7 @@ impl<M: Machine> HistLock<M> {
         ensures legal { Legal (M.may (M.fixed (made_with self.now))) (M.answers (M.fixed (made_with self.now))) (seen_by b.new) }
         ensures own { entries_of (role_of b.new) (seen_by b.new) ≡ made_of b.new }
     {
+        // A copy of `a` goes into `b`, and a load of the count then ties what `b` has heard to the one history.
         let shared = &self.table.shared;
         let copy = shared.split_seat::<Copied>(&mut a.seat);
         shared.join_seat::<TakeIn>(&mut b.seat, copy);
