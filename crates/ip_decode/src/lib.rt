@@ -1,0 +1,14 @@
+//! Reads IP headers: IPv4 (RFC 791) and IPv6 with its extension headers (RFC 8200).
+#![tactic(auto)]
+
+mod extensions;
+mod fields;
+mod ipv4;
+mod ipv6;
+mod reading;
+#[cfg(test)]
+mod tests;
+mod view;
+
+pub use reading::ip;
+pub use view::IpView;
