@@ -1,0 +1,3 @@
+pub mod Ends
+pub mod SoFar
+pub mod Way
