@@ -118,6 +118,11 @@ fn takes_odd_values(rt: HostRuntime) -> Result<(), Fail> {
     let linked = patched(alloc, &LITTLE, 20, &[113, 0, 0, 0xf0])?;
     assert_eq!(rt; read(&rt, alloc, &linked)?.link, 113);
 
+    // The greatest captured length, of which not all bytes are there.
+    let long = patched(alloc, &LITTLE, 32, &[0, 0, 4, 0])?;
+    let held = read(&rt, alloc, &long)?;
+    assert_eq!(rt; (held.list.len(), held.cut_bytes), (0, 19));
+
     // A fraction above a second, and an original length below the captured one.
     let odd = patched(
         alloc,
