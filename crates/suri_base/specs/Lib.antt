@@ -1,3 +1,4 @@
+pub mod App
 pub mod Chain
 pub mod Clock
 pub mod History

@@ -1,7 +1,8 @@
-//! What the crates share: frames, the keys of flows, the facts of packets, the decoder's counters, the
-//! machines that threads drive and their histories, nodes of segments, and want of memory.
+//! What the crates share: frames, the keys of flows, the facts of packets, the decoder's counters,
+//! application protocols, the machines that threads drive and their histories, nodes of segments, and want of memory.
 #![tactic(auto)]
 
+mod app;
 mod counter;
 mod entry;
 mod facts;
@@ -13,6 +14,7 @@ mod reason;
 mod segment;
 mod segments;
 
+pub use app::App;
 pub use counter::Counter;
 pub use entry::{Entry, SegNote};
 pub use facts::{Facts, IcmpFacts, TcpFacts, Way};
