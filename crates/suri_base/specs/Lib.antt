@@ -1,6 +1,7 @@
 pub mod App
 pub mod Chain
 pub mod Clock
+pub mod Hash
 pub mod History
 pub mod Keys
 pub mod Piece
