@@ -60,15 +60,72 @@ def frames(data):
     return link, found, len(data) - at
 
 
+EXTENSIONS = (0, 43, 44, 51, 60)
+
+
+def ipv4(packet):
+    if len(packet) < 20 or packet[0] >> 4 != 4:
+        return None
+    header, total = 4 * (packet[0] & 15), struct.unpack(">H", packet[2:4])[0] or len(packet)
+    if header < 20 or total < header or len(packet) < header:
+        return None
+    if struct.unpack(">H", packet[6:8])[0] & 0x3FFF:
+        return None
+    return packet[9], packet[12:16], packet[16:20], packet[header:total]
+
+
+def ipv6(packet):
+    if len(packet) < 40 or packet[0] >> 4 != 6:
+        return None
+    stated = struct.unpack(">H", packet[4:6])[0] or len(packet) - 40
+    rest, kind = packet[40 : 40 + stated], packet[6]
+    for taken in range(17):
+        if kind not in EXTENSIONS:
+            return kind, packet[8:24], packet[24:40], rest
+        if taken == 16 or len(rest) < 8:
+            return None
+        size = {44: 8, 51: (rest[1] + 2) * 4}.get(kind, (rest[1] + 1) * 8)
+        if len(rest) < size:
+            return None
+        if kind == 44 and struct.unpack(">H", rest[2:4])[0] & 0xFFF9:
+            return None
+        kind, rest = rest[0], rest[size:]
+
+
+def network(link, frame):
+    """The VLAN ids, and what the IP header says: protocol, addresses, payload; or nothing."""
+    if link == 101:
+        packet, ids = frame, []
+        read = {4: ipv4, 6: ipv6}.get(frame[0] >> 4) if frame else None
+    else:
+        size = 14 if link == 1 else 16
+        if len(frame) < size:
+            return None
+        kind, packet, ids = frame[size - 2 : size], frame[size:], []
+        while kind in (b"\x81\x00", b"\x88\xa8"):
+            if len(ids) == 3 or len(packet) < 4:
+                return None
+            ids.append(struct.unpack(">H", packet[:2])[0] & 0xFFF)
+            kind, packet = packet[2:4], packet[4:]
+        read = {b"\x08\x00": ipv4, b"\x86\xdd": ipv6}.get(kind)
+    found = read(packet) if read else None
+    return found and (tuple(ids), *found)
+
+
 def decode(link, frame):
-    """The ends of a UDP packet over IPv4 over Ethernet, or nothing."""
-    if link != 1 or len(frame) < 42 or frame[12:14] != b"\x08\x00" or frame[14] != 0x45 or frame[23] != 17:
+    """The VLAN ids and the ends of a UDP packet, or nothing."""
+    found = network(link, frame)
+    if not found or found[1] != 17 or len(found[4]) < 8:
         return None
-    total, fragment = struct.unpack(">H", frame[16:18])[0], struct.unpack(">H", frame[20:22])[0]
-    if total < 28 or total > len(frame) - 14 or fragment & 0x3FFF:
-        return None
-    ports = struct.unpack(">HH", frame[34:38])
-    return (frame[26:30], ports[0]), (frame[30:34], ports[1])
+    ids, _, source, dest, payload = found
+    ports = struct.unpack(">HH", payload[:4])
+    return ids, (source, ports[0]), (dest, ports[1])
+
+
+def address(raw):
+    if len(raw) == 4:
+        return ".".join(map(str, raw))
+    return ":".join(raw[i : i + 2].hex() for i in range(0, 16, 2))
 
 
 def moment(nanoseconds):
@@ -101,11 +158,12 @@ def record(run, reason):
     there = [packet for packet in run if packet["from"] == client]
     back = [packet for packet in run if packet["from"] != client]
     start, end = min(p["time"] for p in run), max(p["time"] for p in run)
-    return {
+    tags = {"vlan": list(run[0]["vlan"])} if run[0]["vlan"] else {}
+    return tags | {
         "event_type": "flow", "proto": "UDP", "flow_id": run[0]["no"],
         "pcap_first": run[0]["no"], "pcap_last": run[-1]["no"],
-        "src_ip": ".".join(map(str, client[0])), "src_port": client[1],
-        "dest_ip": ".".join(map(str, server[0])), "dest_port": server[1],
+        "src_ip": address(client[0]), "src_port": client[1],
+        "dest_ip": address(server[0]), "dest_port": server[1],
         "timestamp": moment(end),
         "flow": {
             "pkts_toserver": len(there), "pkts_toclient": len(back),
@@ -123,10 +181,11 @@ def text(data):
     clock, by_key = 0, {}
     for number, (time, frame) in enumerate(found, 1):
         clock = max(clock, time)
-        ends = decode(link, frame)
-        if ends:
-            packet = {"no": number, "time": time, "clock": clock, "from": ends[0], "to": ends[1], "len": len(frame)}
-            by_key.setdefault(frozenset(ends), []).append(packet)
+        found_udp = decode(link, frame)
+        if found_udp:
+            ids, source, dest = found_udp
+            packet = {"no": number, "time": time, "clock": clock, "from": source, "to": dest, "len": len(frame), "vlan": ids}
+            by_key.setdefault((ids, frozenset((source, dest))), []).append(packet)
     records = []
     for packets in by_key.values():
         for run, was_cut in cut(packets):

@@ -1,5 +1,6 @@
 pub mod Complete
 pub mod Dates
+pub mod FloatFree
 pub mod Indexed
 pub mod Outputs
 pub mod Padded

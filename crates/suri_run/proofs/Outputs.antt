@@ -1,5 +1,6 @@
 -- A capture has one text.
 use Rattle.std.proofs.Common.{◌≡◌, ℕ, List, Result, Ok, Err, sym, ap, ◌∙◌, subst}
+use Rattle.suri_base.specs.declared.facts.Facts.{Facts}
 use Rattle.pcap_read.specs.File.{CaptureFile}
 use Rattle.pcap_read.specs.declared.fault.PcapFault.{PcapFault}
 use Rattle.pcap_read.proofs.Once.{reads_once}

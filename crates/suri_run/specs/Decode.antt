@@ -1,7 +1,10 @@
--- Which frames bear a flow, and the facts of such a frame: UDP over IPv4 over Ethernet, without tags, IPv4 options and fragments.
-use Rattle.std.specs.Prelude.{ℕ, ◌+◌, ◌-◌, ◌%◌, ◌&&◌, ◌||◌, ◌==◌, nat_lt, nat_le, min, Bool, false, if◌then◌else◌, List, length, take, drop, slice_index, None, Some}
+-- Which frames bear a flow, and the facts of such a frame: UDP over IPv4 and IPv6.
+use Rattle.std.specs.Prelude.{ℕ, ◌+◌, ◌-◌, ◌&&◌, ◌||◌, ◌==◌, nat_lt, nat_le, min, Bool, false, if◌then◌else◌, List, take, drop, option_map, is_some, None, Some, Result, Ok, Err}
 use Rattle.std.specs.declared.option.Option.{Option}
 use Rattle.byteorder.specs.Endian.{big_number}
+use Rattle.packet_decode.specs.Frame.{to_ip_of}
+use Rattle.packet_decode.specs.declared.laws.Inner.{Inner}
+use Rattle.suri_base.specs.declared.counter.Counter.{Counter}
 use Rattle.suri_base.specs.declared.facts.Facts.{Facts}
 use Rattle.suri_base.specs.declared.frame.Frame.{Frame}
 use Rattle.suri_base.specs.declared.key.End.{End}
@@ -9,49 +12,43 @@ use Rattle.suri_base.specs.declared.key.Key.{Key}
 use Rattle.suri_base.specs.declared.key.Side.{Side}
 use Rattle.suri_base.specs.declared.key.Side.TheVariants.{FromA, FromB}
 
--- the number in two bytes, and in four, from a place on, in network order
+-- the number in two bytes from a place on, in network order
 abbrev pub half_at : ℕ → List ℕ → ℕ
 half_at at b = big_number 2 (drop at b)
-
-abbrev pub word_at : ℕ → List ℕ → ℕ
-word_at at b = big_number 4 (drop at b)
 
 -- the captured bytes of a frame
 abbrev pub frame_bytes : List ℕ → Frame → List ℕ
 frame_bytes capture f = take f.len (drop f.at capture)
 
--- Ethernet (link type 1) with EtherType 0x0800, and room for the Ethernet, IPv4 and UDP headers (14, 20 and 8 bytes)
-abbrev pub carries_ipv4 : ℕ → List ℕ → Bool
-carries_ipv4 link b = (link == 1) && (nat_le 42 (length b) && (half_at 12 b == 0x0800))
+-- the headers of a frame are those of a UDP datagram (protocol 17) of which at least the header of 8 bytes (RFC 768) was captured
+abbrev pub udp_within : Result Inner Counter → Option Inner
+udp_within (Ok inner) = if (inner.ip.proto == 17) && nat_le 8 inner.ip.pay_len then Some inner else None
+udp_within (Err counter) = None
 
--- an IPv4 header (RFC 791, section 3.1) of version 4 and five words, whose total length holds a UDP header and was captured,
--- with neither More Fragments nor an offset, and with protocol 17
-abbrev pub holds_udp : List ℕ → Bool
-holds_udp b =
-    (slice_index b 14 == 0x45) && (nat_le 28 (half_at 16 b) && (nat_le (half_at 16 b + 14) (length b)
-    && ((half_at 20 b % 0x4000 == 0) && (slice_index b 23 == 17))))
+unfoldable pub udp_of : ℕ → List ℕ → Option Inner
+udp_of link b = udp_within (to_ip_of link b)
 
--- the frame is of the one form that bears a flow
-abbrev pub is_first_form : ℕ → List ℕ → Bool
-is_first_form link b = carries_ipv4 link b && holds_udp b
+-- the frame bears a flow
+abbrev pub bears_flow : ℕ → List ℕ → Bool
+bears_flow link b = is_some (udp_of link b)
 
--- the addresses stand in the IPv4 header, the ports in the UDP header (RFC 768)
-abbrev pub source_of : List ℕ → End
-source_of b = record { addr = word_at 26 b; port = half_at 34 b }
+-- the addresses stand in the IP header, the ports in the UDP header
+abbrev pub source_of : Inner → List ℕ → End
+source_of inner b = record { addr = inner.ip.src; port = half_at inner.ip.pay_at b }
 
-abbrev pub dest_of : List ℕ → End
-dest_of b = record { addr = word_at 30 b; port = half_at 36 b }
+abbrev pub dest_of : Inner → List ℕ → End
+dest_of inner b = record { addr = inner.ip.dst; port = half_at (inner.ip.pay_at + 2) b }
 
 -- by address, and then by port
 abbrev pub is_at_most : End → End → Bool
 is_at_most a b = nat_lt a.addr b.addr || ((a.addr == b.addr) && nat_le a.port b.port)
 
--- the key of a UDP packet over IPv4 without tags, whose ends are an unordered pair: the lesser end stands first
-abbrev pub key_between : End → End → Key
-key_between source dest = record {
-  vlans = record { count = 0; first = 0; second = 0; third = 0 };
-  version = 4;
-  proto = 17;
+-- the key of a UDP packet, whose ends are an unordered pair: the lesser end stands first
+abbrev pub key_between : Inner → End → End → Key
+key_between inner source dest = record {
+  vlans = inner.vlans;
+  version = inner.ip.version;
+  proto = inner.ip.proto;
   one_way = false;
   a = if is_at_most source dest then source else dest;
   b = if is_at_most source dest then dest else source;
@@ -60,29 +57,28 @@ key_between source dest = record {
 abbrev pub side_between : End → End → Side
 side_between source dest = if is_at_most source dest then FromA else FromB
 
--- the UDP payload ends where the UDP length says, or with the IPv4 datagram where that is shorter; a length below 8 is taken as the datagram's
-abbrev pub payload_length : List ℕ → ℕ
-payload_length b =
-    let datagram = half_at 16 b - 20 in
-    let stated = half_at 38 b in
-    (if nat_lt stated 8 then datagram else min stated datagram) - 8
+-- the UDP payload ends where the UDP length says, or with the IP payload where that is shorter; a length below 8 is taken as the IP payload's
+abbrev pub payload_length : Inner → List ℕ → ℕ
+payload_length inner b =
+    let stated = half_at (inner.ip.pay_at + 4) b in
+    (if nat_lt stated 8 then inner.ip.pay_len else min stated inner.ip.pay_len) - 8
 
-abbrev pub facts_from : Frame → ℕ → List ℕ → Facts
-facts_from f clock b = record {
+abbrev pub facts_from : Frame → ℕ → List ℕ → Inner → Facts
+facts_from f clock b inner = record {
   no = f.no;
   time = f.time;
   clock = clock;
-  key = key_between (source_of b) (dest_of b);
-  side = side_between (source_of b) (dest_of b);
+  key = key_between inner (source_of inner b) (dest_of inner b);
+  side = side_between (source_of inner b) (dest_of inner b);
   len = f.len;
-  ttl = slice_index b 22;
+  ttl = inner.ip.ttl;
   tcp = None;
   icmp = None;
-  pay_at = f.at + 42;
-  pay_len = payload_length b;
+  pay_at = f.at + (inner.ip.pay_at + 8);
+  pay_len = payload_length inner b;
   next = 0;
 }
 
 -- the facts of a frame with these bytes, where it bears a flow
 unfoldable pub facts_of : ℕ → Frame → ℕ → List ℕ → Option Facts
-facts_of link f clock b = if is_first_form link b then Some (facts_from f clock b) else None
+facts_of link f clock b = option_map (facts_from f clock b) (udp_of link b)

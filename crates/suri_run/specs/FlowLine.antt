@@ -1,14 +1,16 @@
 -- The flow line: a JSON object on one line.
-use Rattle.std.specs.Prelude.{ℕ, ◌-◌, ◌/◌, ◌||◌, ◌==◌, min, max, Bool, false, if◌then◌else◌, List, [], ◌∷◌, ◌++◌, codes}
-use Rattle.serde_json.specs.Data.{Data, boolean, number, string, object, unsigned, member, no_members}
+use Rattle.std.specs.Prelude.{ℕ, ◌-◌, ◌/◌, ◌||◌, ◌==◌, min, max, Bool, false, if◌then◌else◌, List, [], ◌∷◌, ◌++◌, codes, None, Some}
+use Rattle.std.specs.declared.option.Option.{Option}
+use Rattle.serde_json.specs.Data.{Data, Members, array, boolean, item, member, no_items, no_members, number, object, put, string, unsigned}
 use Rattle.serde_json.specs.Written.{compact_text}
 use Rattle.suri_base.specs.declared.key.End.{End}
 use Rattle.suri_base.specs.declared.key.Side.TheVariants.{FromA}
+use Rattle.suri_base.specs.declared.key.Vlans.{Vlans}
 use Rattle.suri_base.specs.declared.reason.Reason.{Reason}
 use Rattle.suri_base.specs.declared.reason.Reason.TheVariants.{Timeout, TcpReuse, Forced, Shutdown}
 use Rattle.suri_base.specs.Keys.{is_side}
 use Rattle.flow_sum.specs.declared.sums.Sums.{Sums}
-use Rattle.suri_run.specs.Address.{dotted}
+use Rattle.suri_run.specs.Address.{address_text}
 use Rattle.suri_run.specs.Time.{time_text}
 
 abbrev pub count : ℕ → Data
@@ -49,7 +51,7 @@ abbrev pub state_text : Sums → List ℕ
 state_text s = if is_one_sided s then codes "new" else codes "established"
 
 -- the object `flow` of the line, where start and end have these texts
-abbrev pub totals_data : Sums → Reason → List ℕ → List ℕ → Data
+unfoldable pub totals_data : Sums → Reason → List ℕ → List ℕ → Data
 totals_data s r start end =
     object (member (codes "age") (count (age_of s))
     (member (codes "alerted") (boolean false)
@@ -62,10 +64,23 @@ totals_data s r start end =
     (member (codes "start") (string start)
     (member (codes "state") (string (state_text s)) no_members))))))))))
 
--- the line, where the addresses, the end and the object `flow` are these
-abbrev pub line_data : Sums → List ℕ → List ℕ → List ℕ → Data → Data
-line_data s source dest end totals =
-    object (member (codes "dest_ip") (string dest)
+-- the ids of the VLAN tags, the outermost first, where there is a tag
+abbrev pub vlan_data : Vlans → Option Data
+vlan_data v =
+    if v.count == 0 then None
+    else (if v.count == 1 then Some (array (item (count v.first) no_items))
+    else (if v.count == 2 then Some (array (item (count v.first) (item (count v.second) no_items)))
+    else Some (array (item (count v.first) (item (count v.second) (item (count v.third) no_items))))))
+
+-- a member, where there is one; `put` keeps the keys in order of bytes
+abbrev pub put_some : List ℕ → Option Data → Members → Members
+put_some key None members = members
+put_some key (Some value) members = put key value members
+
+-- the members that each line has, where the addresses, the end and the object `flow` are these
+abbrev pub line_members : Sums → List ℕ → List ℕ → List ℕ → Data → Members
+line_members s source dest end totals =
+    member (codes "dest_ip") (string dest)
     (member (codes "dest_port") (count (server_end s).port)
     (member (codes "event_type") (string (codes "flow"))
     (member (codes "flow") totals
@@ -75,12 +90,16 @@ line_data s source dest end totals =
     (member (codes "proto") (string (codes "UDP"))
     (member (codes "src_ip") (string source)
     (member (codes "src_port") (count (client_end s).port)
-    (member (codes "timestamp") (string end) no_members)))))))))))
+    (member (codes "timestamp") (string end) no_members))))))))))
 
--- the flow line of a UDP flow over IPv4 that ended for this reason, its keys in order of bytes
-abbrev pub flow_data : Sums → Reason → Data
+-- the line around the object `flow`
+unfoldable pub line_data : Sums → List ℕ → List ℕ → List ℕ → Data → Data
+line_data s source dest end totals = object (put_some (codes "vlan") (vlan_data s.key.vlans) (line_members s source dest end totals))
+
+-- the flow line of a UDP flow that ended for this reason, its keys in order of bytes
+unfoldable pub flow_data : Sums → Reason → Data
 flow_data s r =
-    line_data s (dotted (client_end s).addr) (dotted (server_end s).addr) (time_text (end_of s))
+    line_data s (address_text s.key.version (client_end s).addr) (address_text s.key.version (server_end s).addr) (time_text (end_of s))
     (totals_data s r (time_text (start_of s)) (time_text (end_of s)))
 
 -- its text: compact JSON, and a line feed

@@ -4,7 +4,7 @@ use Rattle.std.specs.Option.{option_to_list}
 use Rattle.suri_base.specs.declared.facts.Facts.{Facts}
 use Rattle.suri_base.specs.declared.frame.Frame.{Frame}
 use Rattle.suri_base.specs.Clock.{clock_of}
-use Rattle.suri_run.specs.Decode.{facts_of, frame_bytes, is_first_form}
+use Rattle.suri_run.specs.Decode.{bears_flow, facts_of, frame_bytes}
 
 -- the facts of the frames that bear a flow, in file order, where these frames stand before them
 abbrev pub packets_after : ℕ → List ℕ → List Frame → List Frame → List Facts
@@ -18,4 +18,4 @@ packets_of link capture frames = packets_after link capture [] frames
 
 -- the frames that bear no flow
 abbrev pub bare_frames : ℕ → List ℕ → List Frame → List Frame
-bare_frames link capture frames = filter (λ f. not (is_first_form link (frame_bytes capture f))) frames
+bare_frames link capture frames = filter (λ f. not (bears_flow link (frame_bytes capture f))) frames

@@ -1,26 +1,31 @@
 //! The flow line.
-ghost use Rattle.std.specs.Prelude.{◌≡◌, IfOk, string_bytes};
-ghost use Rattle.serde_json.specs.View.{view};
+ghost use Rattle.std.specs.Prelude.{◌≡◌, IfOk, OnOk, option_map, string_bytes};
+ghost use Rattle.serde_json.specs.Data.{Members, object};
+ghost use Rattle.serde_json.specs.View.{members_view, view};
 ghost use Rattle.suri_run.specs.FlowLine.{
   age_of,
   client_end,
   end_of,
+  flow_data,
   flow_line,
   is_one_sided,
   line_data,
+  line_members,
+  put_some,
   reason_text,
   server_end,
   start_of,
   state_text,
   totals_data,
+  vlan_data,
 };
 
-use crate::address::ipv4_text;
+use crate::address::ip_text;
 use crate::time::utc_text;
 use flow_sum::Sums;
-use serde_json::{Value, json};
+use serde_json::{Map, Value, json, put};
 use std::alloc::{AllocError, Global};
-use suri_base::{End, Reason, Side};
+use suri_base::{End, Reason, Side, Vlans};
 
 // The end that is the client.
 fn client(sums: &Sums) -> End
@@ -93,6 +98,7 @@ fn state_name(sums: &Sums) -> &'static str
 }
 
 // The object `flow` of the line.
+#[tactic(auto, unfolding(crate::specs::FlowLine::totals_data))]
 fn totals_value(
     alloc: Global,
     sums: &Sums,
@@ -116,8 +122,55 @@ fn totals_value(
     })
 }
 
-// The line around the object `flow`.
-fn line_value(
+// The VLAN ids as a value, where there is a tag.
+fn vlan_value(alloc: Global, vlans: &Vlans) -> Result<Option<Value>, AllocError>
+    ensures { IfOk result (λ o. option_map view o ≡ vlan_data vlans.now) }
+{
+    match vlans.count {
+        0 => Ok(None),
+        1 => Ok(Some(json!(in alloc; [vlans.first])?)),
+        2 => Ok(Some(json!(in alloc; [vlans.first, vlans.second])?)),
+        _ => Ok(Some(json!(in alloc; [vlans.first, vlans.second, vlans.third])?)),
+    }
+}
+
+// Puts a member where there is one.
+fn put_member(
+    members: &mut Map<String, Value>,
+    alloc: Global,
+    key: &str,
+    value: Option<Value>,
+) -> Result<(), AllocError>
+    ensures { OnOk result (members_view members.new.entries
+        ≡ put_some key.now (option_map view value) (members_view members.old.entries)) }
+{
+    match value {
+        None => Ok(()),
+        Some(value) => put(members, alloc, key, value),
+    }
+}
+
+// The object with one member more, where there is one.
+fn with_member(
+    alloc: Global,
+    value: Value,
+    key: &str,
+    member: Option<Value>,
+) -> Result<Value, AllocError>
+    ensures { (members : Members) → view value ≡ object members
+        → IfOk result (λ v. view v ≡ object (put_some key.now (option_map view member) members)) }
+{
+    match value {
+        Value::Object(mut members) => {
+            put_member(&mut members, alloc, key, member)?;
+            Ok(Value::Object(members))
+        }
+        other => Ok(other),
+    }
+}
+
+// The members that each line has.
+fn fixed_line(
     alloc: Global,
     sums: &Sums,
     source: &str,
@@ -125,8 +178,8 @@ fn line_value(
     end: &str,
     totals: &Value,
 ) -> Result<Value, AllocError>
-    ensures { IfOk result
-        (λ v. view v ≡ line_data sums.now source.now dest.now end.now (view totals.now)) }
+    ensures { IfOk result (λ v. view v
+        ≡ object (line_members sums.now source.now dest.now end.now (view totals.now))) }
 {
     json!(in alloc; {
         "dest_ip": dest,
@@ -143,24 +196,50 @@ fn line_value(
     })
 }
 
-/// The flow line of a UDP flow over IPv4, with its line feed.
-#[tactic(auto, unfolding(crate::specs::FlowLine::flow_line))]
-pub fn flow_text(alloc: Global, sums: &Sums, reason: Reason) -> Result<String, AllocError>
-    ensures { IfOk result (λ s. string_bytes s ≡ flow_line sums.now reason) }
+// The line around the object `flow`.
+#[tactic(auto, unfolding(crate::specs::FlowLine::line_data))]
+fn line_value(
+    alloc: Global,
+    sums: &Sums,
+    source: &str,
+    dest: &str,
+    end: &str,
+    totals: &Value,
+) -> Result<Value, AllocError>
+    ensures { IfOk result
+        (λ v. view v ≡ line_data sums.now source.now dest.now end.now (view totals.now)) }
 {
-    let source = ipv4_text(alloc, client(sums).addr)?;
-    let dest = ipv4_text(alloc, server(sums).addr)?;
+    let fixed = fixed_line(alloc, sums, source, dest, end, totals)?;
+    let vlan = vlan_value(alloc, &sums.key.vlans)?;
+    with_member(alloc, fixed, "vlan", vlan)
+}
+
+// The line as a value.
+#[tactic(auto, unfolding(crate::specs::FlowLine::flow_data))]
+fn flow_value(alloc: Global, sums: &Sums, reason: Reason) -> Result<Value, AllocError>
+    ensures { IfOk result (λ v. view v ≡ flow_data sums.now reason) }
+{
+    let source = ip_text(alloc, sums.key.version, client(sums).addr)?;
+    let dest = ip_text(alloc, sums.key.version, server(sums).addr)?;
     let start = utc_text(alloc, start(sums))?;
     let end = utc_text(alloc, end(sums))?;
     let totals = totals_value(alloc, sums, reason, start.as_str(), end.as_str())?;
-    let value = line_value(
+    line_value(
         alloc,
         sums,
         source.as_str(),
         dest.as_str(),
         end.as_str(),
         &totals,
-    )?;
+    )
+}
+
+/// The flow line of a UDP flow, with its line feed.
+#[tactic(auto, unfolding(crate::specs::FlowLine::flow_line))]
+pub fn flow_text(alloc: Global, sums: &Sums, reason: Reason) -> Result<String, AllocError>
+    ensures { IfOk result (λ s. string_bytes s ≡ flow_line sums.now reason) }
+{
+    let value = flow_value(alloc, sums, reason)?;
     let mut line = value.to_string(alloc)?;
     line.push('\n')?;
     Ok(line)

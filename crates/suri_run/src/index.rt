@@ -1,5 +1,6 @@
 //! The packets of a capture: which frames bear a flow, and the capture clock.
 ghost use Rattle.pcap_read.specs.File.{AreFrames};
+ghost use Rattle.pcap_read.specs.Header.{IsLink};
 ghost use Rattle.std.specs.Option.{option_to_list};
 ghost use Rattle.std.specs.Prelude.{◌≡◌, ◌≤◌, ◌^◌, ◌++◌, IfOk, OnOk, length};
 ghost use Rattle.suri_base.specs.Clock.{clock_of};
@@ -38,6 +39,7 @@ pub fn make_index(
     bytes: &[u8],
     frames: &[Frame],
 ) -> Result<Index, AllocError>
+    requires link { IsLink link }
     requires inside { AreFrames (length bytes.now) 0 frames.now }
     requires small { length bytes.now ≤ 2 ^ 30 }
     ensures packets { IfOk result (λ r. r.packets.items ≡ packets_of link bytes.now frames.now) }

@@ -1,5 +1,6 @@
 //! What is reported of a capture: its flow records, and the counts of the stats line.
 ghost use Rattle.pcap_read.specs.File.{AreFrames, Reads, view};
+ghost use Rattle.pcap_read.specs.Header.{IsLink};
 ghost use Rattle.std.specs.Prelude.{
   ◌≡◌,
   ◌^◌,
@@ -137,6 +138,7 @@ fn report_of(alloc: Global, bytes: &[u8], file: &Frames) -> Result<Report, Cause
     requires inside { AreFrames (length bytes.now) 0 file.now.list.items }
     requires few { length file.now.list.items ≤ 4194304 }
     requires reads { Reads bytes.now (Ok (view file.now)) }
+    requires link { IsLink file.now.link }
     ensures report { IfOk result (λ r. IsReport bytes.now r.flows.items r.stats) }
     ensures memory { IfErr result (λ c. c ≡ Cause.NoMemory) }
 {

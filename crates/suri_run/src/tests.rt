@@ -58,17 +58,42 @@ const TIME_BACKWARDS: &str =
 const ARP: &str =
     "{\"event_type\":\"stats\",\"stats\":{\"capture\":{\"bytes\":42,\"cut_bytes\":0,\"frames\":1},\"decoder\":{\"not_built\":1},\"flow\":{\"bytes\":0,\"packets\":0,\"records\":0,\"shutdown\":0,\"timeout\":0}},\"timestamp\":\"2023-11-14T22:13:20.000000+0000\"}\n";
 
+// Tags 5 and 7 around UDP from A to B, then the same without tags.
+const TAGGED_AND_NOT: &str =
+    "{\"dest_ip\":\"10.0.0.2\",\"dest_port\":2000,\"event_type\":\"flow\",\"flow\":{\"age\":0,\"alerted\":false,\"bytes_toclient\":0,\"bytes_toserver\":50,\"end\":\"2023-11-14T22:13:20.000000+0000\",\"pkts_toclient\":0,\"pkts_toserver\":1,\"reason\":\"shutdown\",\"start\":\"2023-11-14T22:13:20.000000+0000\",\"state\":\"new\"},\"flow_id\":1,\"pcap_first\":1,\"pcap_last\":1,\"proto\":\"UDP\",\"src_ip\":\"10.0.0.1\",\"src_port\":1000,\"timestamp\":\"2023-11-14T22:13:20.000000+0000\",\"vlan\":[5,7]}\n{\"dest_ip\":\"10.0.0.2\",\"dest_port\":2000,\"event_type\":\"flow\",\"flow\":{\"age\":0,\"alerted\":false,\"bytes_toclient\":0,\"bytes_toserver\":42,\"end\":\"2023-11-14T22:13:21.000000+0000\",\"pkts_toclient\":0,\"pkts_toserver\":1,\"reason\":\"shutdown\",\"start\":\"2023-11-14T22:13:21.000000+0000\",\"state\":\"new\"},\"flow_id\":2,\"pcap_first\":2,\"pcap_last\":2,\"proto\":\"UDP\",\"src_ip\":\"10.0.0.1\",\"src_port\":1000,\"timestamp\":\"2023-11-14T22:13:21.000000+0000\"}\n{\"event_type\":\"stats\",\"stats\":{\"capture\":{\"bytes\":92,\"cut_bytes\":0,\"frames\":2},\"decoder\":{\"not_built\":0},\"flow\":{\"bytes\":92,\"packets\":2,\"records\":2,\"shutdown\":2,\"timeout\":0}},\"timestamp\":\"2023-11-14T22:13:21.000000+0000\"}\n";
+
+// UDP over IPv6 behind one extension header, without a link header.
+const BEHIND_ONE_EXTENSION: &str =
+    "{\"dest_ip\":\"2001:0db8:0000:0000:0000:0000:0000:0002\",\"dest_port\":2000,\"event_type\":\"flow\",\"flow\":{\"age\":0,\"alerted\":false,\"bytes_toclient\":0,\"bytes_toserver\":56,\"end\":\"2023-11-14T22:13:20.000000+0000\",\"pkts_toclient\":0,\"pkts_toserver\":1,\"reason\":\"shutdown\",\"start\":\"2023-11-14T22:13:20.000000+0000\",\"state\":\"new\"},\"flow_id\":1,\"pcap_first\":1,\"pcap_last\":1,\"proto\":\"UDP\",\"src_ip\":\"2001:0db8:0000:0000:0000:0000:0000:0001\",\"src_port\":1000,\"timestamp\":\"2023-11-14T22:13:20.000000+0000\"}\n{\"event_type\":\"stats\",\"stats\":{\"capture\":{\"bytes\":56,\"cut_bytes\":0,\"frames\":1},\"decoder\":{\"not_built\":0},\"flow\":{\"bytes\":56,\"packets\":1,\"records\":1,\"shutdown\":1,\"timeout\":0}},\"timestamp\":\"2023-11-14T22:13:20.000000+0000\"}\n";
+
+// The same behind sixteen of them, and behind seventeen.
+const BEHIND_SIXTEEN_EXTENSIONS: &str =
+    "{\"dest_ip\":\"2001:0db8:0000:0000:0000:0000:0000:0002\",\"dest_port\":2000,\"event_type\":\"flow\",\"flow\":{\"age\":0,\"alerted\":false,\"bytes_toclient\":0,\"bytes_toserver\":176,\"end\":\"2023-11-14T22:13:20.000000+0000\",\"pkts_toclient\":0,\"pkts_toserver\":1,\"reason\":\"shutdown\",\"start\":\"2023-11-14T22:13:20.000000+0000\",\"state\":\"new\"},\"flow_id\":1,\"pcap_first\":1,\"pcap_last\":1,\"proto\":\"UDP\",\"src_ip\":\"2001:0db8:0000:0000:0000:0000:0000:0001\",\"src_port\":1000,\"timestamp\":\"2023-11-14T22:13:20.000000+0000\"}\n{\"event_type\":\"stats\",\"stats\":{\"capture\":{\"bytes\":176,\"cut_bytes\":0,\"frames\":1},\"decoder\":{\"not_built\":0},\"flow\":{\"bytes\":176,\"packets\":1,\"records\":1,\"shutdown\":1,\"timeout\":0}},\"timestamp\":\"2023-11-14T22:13:20.000000+0000\"}\n";
+
+const BEHIND_SEVENTEEN_EXTENSIONS: &str =
+    "{\"event_type\":\"stats\",\"stats\":{\"capture\":{\"bytes\":184,\"cut_bytes\":0,\"frames\":1},\"decoder\":{\"not_built\":1},\"flow\":{\"bytes\":0,\"packets\":0,\"records\":0,\"shutdown\":0,\"timeout\":0}},\"timestamp\":\"2023-11-14T22:13:20.000000+0000\"}\n";
+
+// Ends 2001:db8::1 and 2001:db8::2.
+const IPV6_ENDS: [u8; 32] = [
+    0x20, 1, 0xd, 0xb8, 0, 0, 0, 0, 0, 0, 0, 0, 0, 0, 0, 1, 0x20, 1, 0xd, 0xb8, 0, 0, 0, 0, 0, 0,
+    0, 0, 0, 0, 0, 2,
+];
+
+// Ports 1000 and 2000, no payload.
+const UDP_HEADER: [u8; 8] = [3, 0xe8, 7, 0xd0, 0, 8, 0, 0];
+
 // Puts a record behind a capture.
 fn push_record(
     capture: &mut Vec<u8>,
     seconds: u32,
     fraction: u32,
-    frame: &[u8; 42],
+    frame: &[u8],
 ) -> Result<(), Fail> {
+    let len = u32::try_from(frame.len())?;
     capture.extend_from_slice(&seconds.to_le_bytes())?;
     capture.extend_from_slice(&fraction.to_le_bytes())?;
-    capture.extend_from_slice(&42u32.to_le_bytes())?;
-    capture.extend_from_slice(&42u32.to_le_bytes())?;
+    capture.extend_from_slice(&len.to_le_bytes())?;
+    capture.extend_from_slice(&len.to_le_bytes())?;
     capture.extend_from_slice(frame)?;
     Ok(())
 }
@@ -295,5 +320,58 @@ fn second_word_is_refused(rt: HostRuntime) -> Result<(), Fail> {
     assert!(rt; sink.bytes().is_empty());
     // The second write of the note failed, which changes nothing else.
     assert_eq!(rt; notes.bytes(), b"suri_ru".as_slice());
+    Ok(())
+}
+
+#[test]
+fn tags_are_of_the_key_and_of_the_line(rt: HostRuntime) -> Result<(), Fail> {
+    let alloc = rt.alloc();
+    let mut tagged = Vec::new(alloc);
+    tagged.extend_from_slice(&A_TO_B[..12])?;
+    // The second tag has bits above its id.
+    tagged.extend_from_slice(&[0x81, 0, 0, 5, 0x88, 0xa8, 0x20, 7])?;
+    tagged.extend_from_slice(&A_TO_B[12..])?;
+    let mut capture = HEADER.to_vec(alloc)?;
+    push_record(&mut capture, T, 0, &tagged)?;
+    push_record(&mut capture, T + 1, 0, &A_TO_B)?;
+    let seen = run_over(alloc, capture)?;
+    assert_eq!(rt; seen.status, 0);
+    assert_eq!(rt; seen.text.as_slice(), TAGGED_AND_NOT.as_bytes());
+    Ok(())
+}
+
+// UDP over IPv6 behind so many hop-by-hop headers of 8 bytes.
+fn behind_extensions(alloc: Global, count: u8) -> Result<Vec<u8>, Fail> {
+    let mut packet = Vec::new(alloc);
+    let stated = (count as u16 + 1) * 8;
+    packet.extend_from_slice(&[0x60, 0, 0, 0])?;
+    packet.extend_from_slice(&stated.to_be_bytes())?;
+    packet.extend_from_slice(&[0, 64])?;
+    packet.extend_from_slice(&IPV6_ENDS)?;
+    for place in 0..count {
+        let next = if place + 1 == count { 17 } else { 0 };
+        packet.extend_from_slice(&[next, 0, 0, 0, 0, 0, 0, 0])?;
+    }
+    packet.extend_from_slice(&UDP_HEADER)?;
+    Ok(packet)
+}
+
+#[test]
+fn extension_headers_are_walked_past(rt: HostRuntime) -> Result<(), Fail> {
+    let alloc = rt.alloc();
+    let mut raw = HEADER;
+    raw[20] = 101;
+    let cases = [
+        (1, BEHIND_ONE_EXTENSION),
+        (16, BEHIND_SIXTEEN_EXTENSIONS),
+        (17, BEHIND_SEVENTEEN_EXTENSIONS),
+    ];
+    for (count, text) in cases {
+        let mut capture = raw.to_vec(alloc)?;
+        push_record(&mut capture, T, 0, &behind_extensions(alloc, count)?)?;
+        let seen = run_over(alloc, capture)?;
+        assert_eq!(rt; seen.status, 0);
+        assert_eq!(rt; seen.text.as_slice(), text.as_bytes());
+    }
     Ok(())
 }
