@@ -1,5 +1,5 @@
 #!/usr/bin/env python3
-"""Writes a random capture: few ends, times near the timeouts, frames of many forms, and faults now and then.
+"""Random captures: few ends, times near the timeouts, frames of many forms, and faults now and then.
 
     captures.py SEED > capture
 """
@@ -7,8 +7,7 @@ import random
 import struct
 import sys
 
-r = random.Random(int(sys.argv[1]))
-ORDER, MAGIC, UNIT = r.choice([("<", 0xA1B2C3D4, 1000), (">", 0xA1B2C3D4, 1000), ("<", 0xA1B23C4D, 1), (">", 0xA1B23C4D, 1)])
+r = random.Random()
 HOSTS = [bytes([10, 0, 0, i]) for i in range(1, 5)] + [bytes([200, 0, 0, 1])]
 PORTS = [53, 1000, 2000, 65535]
 
@@ -65,20 +64,22 @@ def udp(link):
     return frame if r.random() < 0.9 else frame[: r.randrange(len(frame) + 1)]
 
 
-def capture():
+def capture(seed):
+    r.seed(seed)
+    order, magic, unit = r.choice([("<", 0xA1B2C3D4, 1000), (">", 0xA1B2C3D4, 1000), ("<", 0xA1B23C4D, 1), (">", 0xA1B23C4D, 1)])
     link = r.choice([1] * 8 + [101] * 3 + [113] * 3 + [0x10001, 105])
     version = r.choice([(2, 4)] * 20 + [(2, 3), (3, 4)])
-    parts = [struct.pack(ORDER + "IHHIIII", MAGIC, *version, 0, 0, 65535, link)]
+    parts = [struct.pack(order + "IHHIIII", magic, *version, 0, 0, 65535, link)]
     nanoseconds = r.choice([0, 1_700_000_000 * 10**9, 951_782_399 * 10**9, 4_102_444_800 * 10**9])
     for _ in range(r.randrange(40)):
         nanoseconds += r.choice([0, 1, 1000, 10**6, 10**9, 29 * 10**9, 30 * 10**9, 30 * 10**9 + 1000, 300 * 10**9, 300 * 10**9 + 1, 10**12])
         time = max(0, nanoseconds - r.choice([0, 0, 0, 0, 5 * 10**9]))
         frame = udp(link % 65536)
-        fraction = time % 10**9 // UNIT
+        fraction = time % 10**9 // unit
         if r.random() < 0.03:
             fraction = r.randrange(2**32)
         length = len(frame) if r.random() < 0.99 else r.choice([262_144, 262_145, 2**32 - 1])
-        parts.append(struct.pack(ORDER + "IIII", time // 10**9 % 2**32, fraction, length, r.randrange(2**32)) + frame)
+        parts.append(struct.pack(order + "IIII", time // 10**9 % 2**32, fraction, length, r.randrange(2**32)) + frame)
     data = b"".join(parts)
     if r.random() < 0.2:
         data = data[: r.randrange(len(data) + 1)]
@@ -87,4 +88,5 @@ def capture():
     return data
 
 
-sys.stdout.buffer.write(capture())
+if __name__ == "__main__":
+    sys.stdout.buffer.write(capture(int(sys.argv[1])))

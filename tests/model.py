@@ -4,7 +4,7 @@
     model.py < capture > lines        the text; a note on standard error; the program's status
 
 It keeps whole lists and looks them through, with none of the program's structure, so that the two
-can be compared on any capture (tests/compare.sh).
+can be compared on any capture (tests/compare.py).
 """
 import json
 import struct

@@ -1,0 +1,46 @@
+#!/usr/bin/env python3
+"""Compares the program with the model (tests/model.py) on random captures, sound ones and broken ones:
+text, note and status must be the same.
+
+    tests/compare.py [COUNT [SEED]]
+"""
+import pathlib
+import subprocess
+import sys
+
+import captures
+import model
+
+PROGRAM = pathlib.Path(__file__).resolve().parent.parent / "bin" / "suri_run"
+
+
+def wanted(data):
+    try:
+        return 0, model.text(data), ""
+    except model.Refused as refused:
+        return refused.status, "", f"suri_run: {refused.note}\n"
+
+
+def differs(seed):
+    data = captures.capture(seed)
+    ran = subprocess.run([PROGRAM], input=data, capture_output=True)
+    seen = ran.returncode, ran.stdout.decode(), ran.stderr.decode()
+    if seen == wanted(data):
+        return False
+    print(f"seed {seed}: status {seen[0]} and note {seen[2]!r}; the model's {wanted(data)[0]} and {wanted(data)[2]!r}")
+    for line, other in zip(seen[1].splitlines(), wanted(data)[1].splitlines()):
+        if line != other:
+            print(line, other, sep="\n")
+            break
+    return True
+
+
+def main():
+    count, first = (int(word) for word in (sys.argv[1:] + ["1000", "1"][len(sys.argv) - 1 :])[:2])
+    bad = sum(differs(seed) for seed in range(first, first + count))
+    print(f"{count - bad} passed, {bad} failed")
+    return bad != 0
+
+
+if __name__ == "__main__":
+    sys.exit(main())
