@@ -13,6 +13,7 @@ use crate::table::{HistLock, Refused};
 use crate::view::{Home, View};
 use atomic_table::Seat;
 use std::sync::Wait;
+use std::sync::atomic::Ordering;
 use suri_base::{Entry, Machine};
 
 // The word that is 1 while a role has the turn.
@@ -68,7 +69,11 @@ impl<M: Machine> HistLock<M> {
             if shared.compare_exchange::<Take<M>>(seat, HELD, 0, 1) == 0 {
                 return;
             }
+            // Who waits says so before it looks at the word again, and who gives the turn back looks for it
+            // after that word was set: so one that sleeps is seen.
+            self.waiting.fetch_add(1, Ordering::SeqCst);
             shared.park(rt, HELD, 1);
+            self.waiting.fetch_sub(1, Ordering::SeqCst);
         }
         unreachable!()
     }
@@ -108,7 +113,7 @@ impl<M: Machine> HistLock<M> {
         self.table.shared.fetch_add::<Count>(seat, COUNT, 1);
     }
 
-    // Gives the turn back with what the seat carries, and wakes one that waits.
+    // Gives the turn back with what the seat carries, and wakes one that waits, where there is one.
     fn give_turn(&self, seat: &mut LockSeat<M>)
         requires lock { seat.old.table_id ≡ lock_id self.now }
         requires turn { (h : Home M M.Note) × (seat.old.me.1 ≡ (0, Some h) ∷ []) × (seat.old.me.0.whole ≡ Some (past_of h)) × (M.fixed h.machine ≡ M.fixed (made_with self.now)) × M.stands h.machine (past_of h) }
@@ -116,7 +121,9 @@ impl<M: Machine> HistLock<M> {
         ensures after { seat.new.me ≡ (idle seat.old.me.0, []) }
     {
         self.table.shared.swap::<Give>(seat, HELD, 0);
-        self.table.shared.wake_one(HELD);
+        if self.waiting.load(Ordering::SeqCst) > 0 {
+            self.table.shared.wake_one(HELD);
+        }
     }
 
     // Waits for the turn, and takes the machine and its history out of the slot.

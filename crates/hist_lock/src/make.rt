@@ -11,6 +11,7 @@ use crate::view::{About, Home};
 use atomic_table::Table;
 use std::alloc::{AllocError, Global};
 use std::snapshot::Snapshot;
+use std::sync::atomic::AtomicU64;
 use suri_base::{Machine, NoMemory};
 
 impl<M: Machine> HistLock<M> {
@@ -68,7 +69,10 @@ impl<M: Machine + Drop> HistLock<M> {
         let Ok((table, seat)) = Table::new(alloc, &[0, 0], slots, &about) else {
             return Err(NoMemory);
         };
-        let lock = HistLock { table };
+        let lock = HistLock {
+            table,
+            waiting: AtomicU64::new(0),
+        };
         let passes = lock.deal(seat, roles, passes);
         Ok((lock, passes))
     }

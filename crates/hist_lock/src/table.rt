@@ -5,6 +5,7 @@ use crate::law::Law;
 use crate::view::{About, Home, View};
 use atomic_table::Table;
 use std::alloc::Global;
+use std::sync::atomic::AtomicU64;
 use suri_base::Machine;
 
 /// A lock over the machine `M`.
@@ -17,6 +18,9 @@ pub struct HistLock<M: Machine> {
         Law<M>,
         Global,
     >,
+    // How many threads wait for the turn, or are about to: who gives it back wakes one only where there
+    // is one. No promise rests on it.
+    pub(crate) waiting: AtomicU64,
     ghost sized: { (table.shared.table_id.words ≡ 2) × (table.shared.table_id.slots ≡ 1) },
 }
 
