@@ -1,3 +1,4 @@
 pub mod Ends
 pub mod SoFar
+pub mod Transports
 pub mod Way

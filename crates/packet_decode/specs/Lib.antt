@@ -1,2 +1,3 @@
 pub mod Frame
+pub mod Layers
 pub mod Tags

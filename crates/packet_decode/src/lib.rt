@@ -1,4 +1,4 @@
-//! Walks from a captured frame down to its IP payload: link header, VLAN tags, IP header.
+//! Reads captured frames: link header, VLAN tags, IP header, transport header.
 #![tactic(auto)]
 
 pub mod laws;
@@ -6,3 +6,8 @@ mod link;
 mod tags;
 #[cfg(test)]
 mod tests;
+mod whole;
+#[cfg(test)]
+mod whole_tests;
+
+pub use whole::{View, decode};
