@@ -1,0 +1,4 @@
+pub mod Flows
+pub mod Order
+pub mod Symmetry
+pub mod Tags

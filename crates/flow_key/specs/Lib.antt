@@ -1,0 +1,4 @@
+pub mod Ends
+pub mod Keyed
+pub mod Pairs
+pub mod SameFlow
