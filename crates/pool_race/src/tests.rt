@@ -1,5 +1,9 @@
+ghost use Rattle.std.specs.Prelude.{◌≡◌, ◌≤◌, [], vec_capacity};
+ghost use Rattle.hist_lock.specs.Locks.{IsPassOf, role_of, roles_of};
+ghost use Rattle.segment_pool.specs.Pool.{limit_of};
+
 use crate::in_two_threads;
-use hist_lock::HistLock;
+use hist_lock::{HistLock, Pass};
 use segment_pool::{SegCall, SegReply, SegmentPool};
 use std::test::Fail;
 use suri_base::{Entry, SegNote};
@@ -29,6 +33,23 @@ fn is_first_took(entries: &[Entry<SegNote>]) -> bool {
     entries == wanted.as_slice()
 }
 
+// What is left of a lock with two roles: its pool and its history.
+fn finish_two(
+    lock: HistLock<SegmentPool>,
+    one: Pass<SegmentPool>,
+    two: Pass<SegmentPool>,
+    mut passes: Vec<Pass<SegmentPool>>,
+) -> (SegmentPool, Vec<Entry<SegNote>>)
+    requires roles { roles_of lock ≡ 2 }
+    requires one { IsPassOf limit_of lock one × (role_of one ≡ 0) }
+    requires two { IsPassOf limit_of lock two × (role_of two ≡ 1) }
+    requires room { (passes.items ≡ []) × (2 ≤ vec_capacity passes) }
+{
+    passes.push_reserved(one);
+    passes.push_reserved(two);
+    lock.finish(passes)
+}
+
 // In turn, the first pass gets the node, and the second is told that none is left.
 #[test]
 fn one_node_goes_to_the_first(rt: HostRuntime) -> Result<(), Fail> {
@@ -42,9 +63,7 @@ fn one_node_goes_to_the_first(rt: HostRuntime) -> Result<(), Fail> {
     };
     let first = lock.apply(&rt, &mut one, 0, SegCall::Take { no: 1 });
     let second = lock.apply(&rt, &mut two, 0, SegCall::Take { no: 2 });
-    passes.push_reserved(one);
-    passes.push_reserved(two);
-    let (_pool, entries) = lock.finish(passes);
+    let (_pool, entries) = finish_two(lock, one, two, passes);
     assert!(rt; matches!(first, Ok(SegReply::Node(_))));
     assert!(rt; matches!(second, Ok(SegReply::Full { out: 1, limit: 1 })));
     assert!(rt; is_first_took(&entries));
