@@ -1,4 +1,5 @@
 pub mod App
+pub mod Capture
 pub mod Chain
 pub mod Clock
 pub mod Hash
