@@ -1,9 +1,10 @@
 #!/usr/bin/env python3
-"""Compares the program with the model (tests/model.py) on random captures, sound ones and broken ones:
+"""Compares the program with the model (tests/model) on random captures, sound ones and broken ones:
 text, note and status must be the same.
 
     tests/compare.py [COUNT [SEED]]
 """
+import itertools
 import pathlib
 import subprocess
 import sys
@@ -24,11 +25,11 @@ def wanted(data):
 def differs(seed):
     data = captures.capture(seed)
     ran = subprocess.run([PROGRAM], input=data, capture_output=True)
-    seen = ran.returncode, ran.stdout.decode(), ran.stderr.decode()
-    if seen == wanted(data):
+    seen, due = (ran.returncode, ran.stdout.decode(), ran.stderr.decode()), wanted(data)
+    if seen == due:
         return False
-    print(f"seed {seed}: status {seen[0]} and note {seen[2]!r}; the model's {wanted(data)[0]} and {wanted(data)[2]!r}")
-    for line, other in zip(seen[1].splitlines(), wanted(data)[1].splitlines()):
+    print(f"seed {seed}: status {seen[0]} and note {seen[2]!r}; the model's {due[0]} and {due[2]!r}")
+    for line, other in itertools.zip_longest(seen[1].splitlines(), due[1].splitlines(), fillvalue="no line"):
         if line != other:
             print(line, other, sep="\n")
             break

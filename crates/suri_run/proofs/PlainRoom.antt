@@ -1,30 +1,31 @@
 -- The counts of pieces stay in range.
-use Rattle.std.proofs.Common.{◌≡◌, ℕ, zero, suc, ◌+◌, ◌*◌, ◌^◌, ◌<◌, ◌≤◌, List, [], ◌∷◌, ◌++◌, Bool, true, false, cond, length, take, drop, get_or, refl, sym, ap, ◌∙◌, subst, arith, inl, inr, All, drop-cons, add-one}
+use Rattle.std.proofs.Common.{ℕ, zero, suc, ◌+◌, ◌*◌, ◌^◌, ◌<◌, ◌≤◌, List, [], ◌∷◌, ◌++◌, Bool, true, false, cond, length, get_or, arith, inl, inr, All}
 use Rattle.std.specs.Prelude.{filter, sum_by}
 use Rattle.std.specs.List.{list_any}
-use Rattle.std.proofs.lemmas.List.{take_all, take_more}
-use Rattle.std.proofs.lemmas.List.Sums.{sum_by-cons, sum_by_push}
+use Rattle.std.proofs.lemmas.List.Sums.{sum_by-cons}
 use Rattle.suri_base.specs.Keys.{is_side}
 use Rattle.suri_base.specs.declared.facts.Facts.{Facts}
 use Rattle.suri_base.specs.declared.key.Side.{Side}
 use Rattle.flow_sum.specs.Run.{alone, first_of, members, with_one_more}
 use Rattle.flow_sum.specs.Sums.{InRange, dir_of, sent_by, sums_of}
-use Rattle.suri_run.specs.declared.flows.Flow.{Flow}
-use Rattle.suri_run.specs.Plain.{AreInOrder, ArePlain, CountOnce, HasRoom, Piece, advanced, expired, kept, open_piece, takes, timed_out_piece}
-use Rattle.suri_run.proofs.PlainCounts.{weighed_once, weight, weight-advanced}
-use Rattle.suri_run.proofs.PlainKeys.{bool_is}
-use Rattle.suri_run.proofs.PlainLaws.{ArePlain-push, FirstsBelow}
+use Rattle.suri_run.specs.Order.{IsNameable}
+use Rattle.suri_run.specs.Plain.{Piece, cut_piece, is_cut, open_piece}
+use Rattle.suri_run.specs.Steps.{HasRoom, IsSettled, Kept, advanced, kept}
+use Rattle.suri_base.proofs.SameKeys.{bool_is}
+use Rattle.suri_run.proofs.PlainLaws.{FirstsBelow}
 
 abbrev pub AllShort : List Facts → Type 0
 AllShort [] = Unit {0}
 AllShort (f ∷ fs) = (f.len < 2 ^ 32) × AllShort fs
 
--- a piece of at most so many packets, none past a number
+-- a piece of at most so many packets, none past a number, with a clock in range and a key that can be named
 pub record IsSmall (n top : ℕ) (p : Piece) : Type 0 where
   pub few : length (members p.run) ≤ n
   pub short : AllShort (members p.run)
   pub newest : p.run.newest.no ≤ top
   pub first : (first_of p.run).no ≤ top
+  pub clock : p.run.newest.clock < 2 ^ 63
+  pub named : IsNameable (first_of p.run).key
 
 abbrev pub AreSmall : ℕ → ℕ → List Piece → Type 0
 AreSmall n top [] = Unit {0}
@@ -57,18 +58,29 @@ has_room n top p f small most above len = record {
   later = omega (arith, small.newest);
   to_server = in_range n _ p f small.few small.short most len;
   to_client = in_range n _ p f small.few small.short most len;
+  clock = small.clock;
 }
 
 -- every kept flow has room for the next packet
-have_room : (n top : ℕ) (ps : List Piece) (f : Facts) → AreSmall n top ps → n ≤ 4194304 → top < f.no → f.len < 2 ^ 32 → All (λ flow. HasRoom flow.sums f) (kept ps)
-have_room n top [] f small most above len = λ k d lt. absurd (omega arith)
-have_room n top (p ∷ ps) f small most above len = λ k. by k (have_room n top ps f small.1 most above len)
+pub have_room : (bytes : List ℕ) (n top : ℕ) (ps : List Piece) (f : Facts) → AreSmall n top ps → n ≤ 4194304 → top < f.no → f.len < 2 ^ 32
+    → All (λ flow. HasRoom flow.obj.sums f) (kept bytes ps)
+have_room bytes n top [] f small most above len = λ k d lt. absurd (omega arith)
+have_room bytes n top (p ∷ ps) f small most above len = λ k. by k (have_room bytes n top ps f small.1 most above len)
   where
-    by : (k : ℕ) → All (λ flow. HasRoom flow.sums f) (kept ps) → (d : Flow) → k < length (kept (p ∷ ps)) → HasRoom (get_or (kept (p ∷ ps)) k d).sums f
+    by : (k : ℕ) → All (λ flow. HasRoom flow.obj.sums f) (kept bytes ps) → (d : Kept) → k < length (kept bytes (p ∷ ps)) → HasRoom (get_or (kept bytes (p ∷ ps)) k d).obj.sums f
     by zero more d lt = has_room n top p f small.0 most above len
     by (suc k) more d lt = more k d (omega arith)
 
-firsts_below : (n top up : ℕ) (ps : List Piece) → AreSmall n top ps → top < up → FirstsBelow up ps
+-- the record of every kept flow can be made
+pub all_settled : (bytes : List ℕ) (n top : ℕ) (ps : List Piece) → AreSmall n top ps → All (λ flow. IsSettled flow.obj.sums) (kept bytes ps)
+all_settled bytes n top [] small = λ k d lt. absurd (omega arith)
+all_settled bytes n top (p ∷ ps) small = λ k. by k (all_settled bytes n top ps small.1)
+  where
+    by : (k : ℕ) → All (λ flow. IsSettled flow.obj.sums) (kept bytes ps) → (d : Kept) → k < length (kept bytes (p ∷ ps)) → IsSettled (get_or (kept bytes (p ∷ ps)) k d).obj.sums
+    by zero more d lt = record { clock = small.0.clock; named = small.0.named }
+    by (suc k) more d lt = more k d (omega arith)
+
+pub firsts_below : (n top up : ℕ) (ps : List Piece) → AreSmall n top ps → top < up → FirstsBelow up ps
 firsts_below n top up [] small above = tt
 firsts_below n top up (p ∷ ps) small above = (omega (arith, small.0.first), firsts_below n top up ps small.1 above)
 
@@ -79,95 +91,52 @@ larger n top up p small more = record {
   short = small.short;
   newest = omega (arith, small.newest);
   first = omega (arith, small.first);
+  clock = small.clock;
+  named = small.named;
 }
 
 all_larger : (n top up : ℕ) (ps : List Piece) → AreSmall n top ps → top ≤ up → AreSmall (n + 1) up ps
 all_larger n top up [] small more = tt
 all_larger n top up (p ∷ ps) small more = (larger n top up p small.0 more, all_larger n top up ps small.1 more)
 
-ended_small : (n top : ℕ) (p : Piece) → IsSmall n top p → IsSmall n top (timed_out_piece p.run)
-ended_small n top p small = record { few = small.few; short = small.short; newest = small.newest; first = small.first }
+ended_small : (n top : ℕ) (p : Piece) (f : Facts) → IsSmall n top p → IsSmall n top (cut_piece p.run f)
+ended_small n top p f small = record { few = small.few; short = small.short; newest = small.newest; first = small.first; clock = small.clock; named = small.named }
 
-alone_small : (n : ℕ) (f : Facts) → f.len < 2 ^ 32 → IsSmall (n + 1) f.no (open_piece (alone f))
-alone_small n f len = record { few = omega arith; short = (len, tt); newest = omega arith; first = omega arith }
+-- a packet is in range
+pub record IsFine (f : Facts) : Type 0 where
+  pub clock : f.clock < 2 ^ 63
+  pub len : f.len < 2 ^ 32
+  pub named : IsNameable f.key
 
-push_small : (n top : ℕ) (ps : List Piece) (f : Facts) → AreSmall n top ps → top < f.no → f.len < 2 ^ 32 → AreSmall (n + 1) f.no (ps ++ open_piece (alone f) ∷ [])
-push_small n top [] f small above len = (alone_small n f len, tt)
-push_small n top (p ∷ ps) f small above len = (larger n top f.no p small.0 (omega arith), push_small n top ps f small.1 above len)
+alone_small : (n : ℕ) (f : Facts) → IsFine f → IsSmall (n + 1) f.no (open_piece (alone f))
+alone_small n f fine = record { few = omega arith; short = (fine.len, tt); newest = omega arith; first = omega arith; clock = fine.clock; named = fine.named }
 
-more_small : (n top : ℕ) (p : Piece) (f : Facts) → IsSmall n top p → top < f.no → f.len < 2 ^ 32 → IsSmall (n + 1) f.no (open_piece (with_one_more f p.run))
-more_small n top p f small above len = record {
+push_small : (n top : ℕ) (ps : List Piece) (f : Facts) → AreSmall n top ps → top < f.no → IsFine f → AreSmall (n + 1) f.no (ps ++ open_piece (alone f) ∷ [])
+push_small n top [] f small above fine = (alone_small n f fine, tt)
+push_small n top (p ∷ ps) f small above fine = (larger n top f.no p small.0 (omega arith), push_small n top ps f small.1 above fine)
+
+more_small : (n top : ℕ) (p : Piece) (f : Facts) → IsSmall n top p → top < f.no → IsFine f → IsSmall (n + 1) f.no (open_piece (with_one_more f p.run))
+more_small n top p f small above fine = record {
   few = omega (arith, small.few);
-  short = (len, small.short);
+  short = (fine.len, small.short);
   newest = omega arith;
   first = omega (arith, small.first);
+  clock = fine.clock;
+  named = small.named;
 }
 
-advanced_small : (n top : ℕ) (could : Piece → Bool) (ps : List Piece) (f : Facts) → AreSmall n top ps → top < f.no → f.len < 2 ^ 32 → AreSmall (n + 1) f.no (advanced could ps f)
-advanced_small n top could [] f small above len = (alone_small n f len, tt)
-advanced_small n top could (p ∷ ps) f small above len =
+pub advanced_small : (n top : ℕ) (could : Piece → Bool) (ps : List Piece) (f : Facts) → AreSmall n top ps → top < f.no → IsFine f → AreSmall (n + 1) f.no (advanced could ps f)
+advanced_small n top could [] f small above fine = (alone_small n f fine, tt)
+advanced_small n top could (p ∷ ps) f small above fine =
     let here = larger n top f.no p small.0 (omega arith) in
-    let more = advanced_small n top could ps f small.1 above len in
+    let more = advanced_small n top could ps f small.1 above fine in
     elim (bool_is (list_any could ps)) [
       | inl later ↦ rw later (here, more)
       | inr last ↦ elim (bool_is (could p)) [
-        | inl own ↦ elim (bool_is (expired (sums_of p.run) f.clock)) [
-          | inl cut ↦ rw (last, own, cut) (ended_small (n + 1) f.no p here, push_small n top ps f small.1 above len)
-          | inr on ↦ rw (last, own, on) (more_small n top p f small.0 above len, all_larger n top f.no ps small.1 (omega arith))
+        | inl own ↦ elim (bool_is (is_cut p.run f)) [
+          | inl cut ↦ rw (last, own, cut) (ended_small (n + 1) f.no p f here, push_small n top ps f small.1 above fine)
+          | inr on ↦ rw (last, own, on) (more_small n top p f small.0 above fine, all_larger n top f.no ps small.1 (omega arith))
         ]
         | inr other ↦ rw (last, other) (here, more)
       ]
     ]
-
--- the flows of the packets so far
-pub record FlowsSoFar (facts : List Facts) (i : ℕ) (flows : List Flow) : Type 0 where
-  pub pieces : List Piece
-  pub top : ℕ
-  pub plain : ArePlain (take i facts) pieces
-  pub are_kept : flows ≡ kept pieces
-  pub weighs : (g : Facts → ℕ) → weight g pieces ≡ sum_by g (take i facts)
-  pub small : AreSmall i top pieces
-  pub order : AreInOrder top (drop i facts)
-
-pub at_start : (facts : List Facts) (flows : List Flow) → flows ≡ [] → AreInOrder 0 facts → FlowsSoFar facts 0 flows
-at_start facts flows none order = record {
-  pieces = [];
-  top = 0;
-  plain = record { each = λ k. refl; in_order = tt };
-  are_kept = none;
-  weighs = λ g. refl;
-  small = tt;
-  order = order;
-}
-
-pub next_fits : (facts : List Facts) (i : ℕ) (f d : Facts) (flows : List Flow) → FlowsSoFar facts i flows → i < length facts → length facts ≤ 4194304 → f ≡ get_or facts i d
-    → All (λ flow. HasRoom flow.sums f) flows
-next_fits facts i f d flows s lt few is =
-    let split : drop i facts ≡ f ∷ drop (suc i) facts = drop-cons facts i d lt ∙ ap (λ (g : Facts). g ∷ drop (suc i) facts) (sym is) in
-    let order : AreInOrder s.top (f ∷ drop (suc i) facts) = subst (AreInOrder s.top) split s.order in
-    subst (All (λ flow. HasRoom flow.sums f)) (sym s.are_kept) (have_room i s.top s.pieces f s.small (omega arith) order.0 order.2)
-
-pub next : (facts : List Facts) (i : ℕ) (f d : Facts) (flows now : List Flow) → (s : FlowsSoFar facts i flows) → i < length facts → f ≡ get_or facts i d
-    → now ≡ kept (advanced (takes f) s.pieces f) → FlowsSoFar facts (i + 1) now
-next facts i f d flows now s lt is made =
-    let split : drop i facts ≡ f ∷ drop (suc i) facts = drop-cons facts i d lt ∙ ap (λ (g : Facts). g ∷ drop (suc i) facts) (sym is) in
-    let order : AreInOrder s.top (f ∷ drop (suc i) facts) = subst (AreInOrder s.top) split s.order in
-    let front : take (i + 1) facts ≡ take i facts ++ f ∷ [] = take_more facts i d lt ∙ ap (λ (g : Facts). take i facts ++ g ∷ []) (sym is) in
-    let pieces : List Piece = advanced (takes f) s.pieces f in
-    record {
-      pieces = advanced (takes f) s.pieces f;
-      top = f.no;
-      plain = subst (λ l. ArePlain l (advanced (takes f) s.pieces f)) (sym front)
-          (ArePlain-push (take i facts) s.pieces f s.plain (firsts_below i s.top f.no s.pieces s.small order.0) (omega (arith, order.0)));
-      are_kept = made;
-      weighs = λ g. weight-advanced g (takes f) s.pieces f ∙ ap (λ n. n + g f) (s.weighs g) ∙ sym (sum_by_push g (take i facts) f) ∙ ap (sum_by g) (sym front);
-      small = advanced_small i s.top (takes f) s.pieces f s.small order.0 order.2;
-      order = subst (λ n. AreInOrder f.no (drop n facts)) (sym (add-one i)) order.3;
-    }
-
--- after all packets the flows are those of plain pieces
-pub at_end : (facts : List Facts) (i : ℕ) (flows : List Flow) → FlowsSoFar facts i flows → length facts ≤ i
-    → (pieces : List Piece) × ArePlain facts pieces × (flows ≡ kept pieces) × CountOnce facts pieces
-at_end facts i flows s all =
-    let whole : take i facts ≡ facts = take_all i facts all in
-    (s.pieces, subst (λ l. ArePlain l s.pieces) whole s.plain, s.are_kept, weighed_once facts s.pieces (λ g. s.weighs g ∙ ap (sum_by g) whole))

@@ -3,31 +3,31 @@ use Rattle.std.proofs.Common.{◌≡◌, ℕ, ◌+◌, ◌<◌, List, ◌++◌, 
 use Rattle.std.specs.declared.option.Option.{Option}
 use Rattle.suri_outside.specs.Bytes.{TakesAllBut, TakesFront}
 use Rattle.suri_outside.proofs.Fronts.{front_of_more, sent_front_of_more}
-use Rattle.suri_run.specs.declared.flows.Flow.{Flow}
+use Rattle.flow_object.specs.declared.outcome.FlowLine.{FlowLine}
 use Rattle.suri_run.specs.FlowLine.{flow_line}
-use Rattle.suri_run.specs.Report.{lines_of, reason_at}
+use Rattle.suri_run.specs.Report.{lines_of, seed}
 
--- the line of a flow
-abbrev pub line_of : ℕ → Flow → List ℕ
-line_of clock f = flow_line f.sums (reason_at clock f)
+-- the line of a record
+abbrev pub line_text : FlowLine → List ℕ
+line_text l = flow_line l seed
 
--- the lines from a flow on are its line and those behind it
-line_here : (clock : ℕ) (flows : List Flow) (i : ℕ) (d : Flow) → i < length flows → lines_of clock (drop i flows) ≡ line_of clock (get_or flows i d) ++ lines_of clock (drop (i + 1) flows)
-line_here clock flows i d lt =
-    ap (λ (l : List Flow). lines_of clock l) (drop-cons flows i d lt) ∙ ap (λ n. line_of clock (get_or flows i d) ++ lines_of clock (drop n flows)) (sym (add-one i))
+-- the lines from a record on are its line and those behind it
+line_here : (lines : List FlowLine) (i : ℕ) (d : FlowLine) → i < length lines → lines_of (drop i lines) ≡ line_text (get_or lines i d) ++ lines_of (drop (i + 1) lines)
+line_here lines i d lt =
+    ap (λ (l : List FlowLine). lines_of l) (drop-cons lines i d lt) ∙ ap (λ n. line_text (get_or lines i d) ++ lines_of (drop n lines)) (sym (add-one i))
 
 -- a line more, and what is left
-pub next_line : (clock : ℕ) (flows : List Flow) (i : ℕ) (d : Flow) (text all : List ℕ) → i < length flows → text ++ lines_of clock (drop i flows) ≡ all
-    → (text ++ line_of clock (get_or flows i d)) ++ lines_of clock (drop (i + 1) flows) ≡ all
-next_line clock flows i d text all lt rest =
-    append_assoc text (line_of clock (get_or flows i d)) (lines_of clock (drop (i + 1) flows)) ∙ ap (λ l. text ++ l) (sym (line_here clock flows i d lt)) ∙ rest
+pub next_line : (lines : List FlowLine) (i : ℕ) (d : FlowLine) (text all : List ℕ) → i < length lines → text ++ lines_of (drop i lines) ≡ all
+    → (text ++ line_text (get_or lines i d)) ++ lines_of (drop (i + 1) lines) ≡ all
+next_line lines i d text all lt rest =
+    append_assoc text (line_text (get_or lines i d)) (lines_of (drop (i + 1) lines)) ∙ ap (λ l. text ++ l) (sym (line_here lines i d lt)) ∙ rest
 
 -- where the line could not be sent, a front of all lines was taken
-pub front_of_lines : (a b c : Option (List ℕ)) (waiting text : List ℕ) (clock : ℕ) (flows : List Flow) (i : ℕ) (d : Flow) (all : List ℕ) → i < length flows
-    → TakesAllBut a b waiting text → text ++ lines_of clock (drop i flows) ≡ all → TakesFront b c (waiting ++ line_of clock (get_or flows i d)) → TakesFront a c all
-front_of_lines a b c waiting text clock flows i d all lt sent rest front =
-    subst (TakesFront a c) (next_line clock flows i d text all lt rest)
-    (front_of_more a c (text ++ line_of clock (get_or flows i d)) (lines_of clock (drop (i + 1) flows)) (sent_front_of_more a b c waiting text (line_of clock (get_or flows i d)) sent front))
+pub front_of_lines : (a b c : Option (List ℕ)) (waiting text : List ℕ) (lines : List FlowLine) (i : ℕ) (d : FlowLine) (all : List ℕ) → i < length lines
+    → TakesAllBut a b waiting text → text ++ lines_of (drop i lines) ≡ all → TakesFront b c (waiting ++ line_text (get_or lines i d)) → TakesFront a c all
+front_of_lines a b c waiting text lines i d all lt sent rest front =
+    subst (TakesFront a c) (next_line lines i d text all lt rest)
+    (front_of_more a c (text ++ line_text (get_or lines i d)) (lines_of (drop (i + 1) lines)) (sent_front_of_more a b c waiting text (line_text (get_or lines i d)) sent front))
 
 -- what follows on an error holds on an error
 pub on_err : {T E : Type 0} (r : Result T E) (P Q : Type 0) → (P → Q) → OnErr r P → OnErr r Q

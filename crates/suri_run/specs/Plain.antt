@@ -1,49 +1,63 @@
--- Flows that are cut by expiry alone: the pieces of each key's packets.
-use Rattle.std.specs.Prelude.{◌≡◌, ℕ, ◌+◌, ◌^◌, ◌<◌, ◌&&◌, ◌||◌, ◌==◌, nat_lt, map, Bool, true, false, if◌then◌else◌, List, [], ◌∷◌, ◌++◌, filter, length, drop, sum_by, Option, Some, None, is_none}
-use Rattle.std.specs.List.{list_any, slice_index_or}
+-- Plain flows: the runs into which the packets of each key are cut, by expiry and by reuse of the key.
+use Rattle.std.specs.Prelude.{◌≡◌, ℕ, ◌<◌, ◌&&◌, ◌||◌, ◌==◌, Bool, true, false, if◌then◌else◌, List, [], ◌∷◌, filter, length, map, sum_by, bit_and, Option, Some, None, unwrap_or}
+use Rattle.suri_base.specs.App.{payload_of, verdict_of}
 use Rattle.suri_base.specs.Keys.{key_list, same_key}
+use Rattle.suri_base.specs.declared.app.App.{App}
 use Rattle.suri_base.specs.declared.facts.Facts.{Facts}
+use Rattle.suri_base.specs.declared.facts.TcpFacts.{TcpFacts}
 use Rattle.suri_base.specs.declared.key.Key.{Key}
 use Rattle.suri_base.specs.declared.reason.Reason.{Reason}
-use Rattle.suri_base.specs.declared.reason.Reason.TheVariants.{Timeout}
-use Rattle.flow_sum.specs.declared.sums.Sums.{Sums}
+use Rattle.suri_base.specs.declared.reason.Reason.TheVariants.{Timeout, TcpReuse, Shutdown}
+use Rattle.flow_object.specs.Object.{class_of_run, line_of}
+use Rattle.flow_object.specs.declared.outcome.FlowLine.{FlowLine}
 use Rattle.flow_sum.specs.Run.{Run, alone, first_of, members, with_one_more}
-use Rattle.flow_sum.specs.Sums.{InRange, sums_of}
-use Rattle.suri_run.specs.declared.flows.Flow.{Flow}
+use Rattle.tcp_session.specs.declared.classes.Class.{Class}
+use Rattle.tcp_session.specs.declared.classes.Class.TheVariants as class
+use Rattle.timeout_table.specs.Expiry.{has_expired}
+use Rattle.timeout_table.specs.Table.{timeout_of}
 
--- 30 s and 300 s, in nanoseconds
-abbrev pub one_way_timeout : ℕ
-one_way_timeout = 30000000000
+-- the clock has passed the run's last packet by more than the timeout of its protocol and class in normal times
+abbrev pub expired : Run → ℕ → Bool
+expired r clock = has_expired r.newest.clock clock (timeout_of (first_of r).key.proto (class_of_run r) false)
 
-abbrev pub both_ways_timeout : ℕ
-both_ways_timeout = 300000000000
+-- a packet opens a connection: TCP with SYN, and with neither ACK nor RST (RFC 9293, section 3.5)
+abbrev pub opens : Option TcpFacts → Bool
+opens None = false
+opens (Some tcp) = bit_and tcp.flags 0x16 == 0x02
 
--- how long a flow waits for its next packet: 30 s until both directions have a packet, and 300 s from then on
-abbrev pub timeout_of : Sums → ℕ
-timeout_of s = if (s.ts.pkts == 0) || (s.tc.pkts == 0) then one_way_timeout else both_ways_timeout
+abbrev pub is_closed : Class → Bool
+is_closed class.New = false
+is_closed class.Established = false
+is_closed class.Closed = true
 
--- the clock has passed the last packet by more than the timeout
-unfoldable pub expired : Sums → ℕ → Bool
-expired s clock = nat_lt (s.last_clock + timeout_of s) clock
+-- a packet opens a connection by the key of a run that is closed
+abbrev pub reuses : Run → Facts → Bool
+reuses r f = opens f.tcp && is_closed (class_of_run r)
 
--- a run of packets of one key, and why it ended
+-- the next packet of its key ends a run, which had expired, or whose key the packet reuses
+unfoldable pub is_cut : Run → Facts → Bool
+is_cut r f = expired r f.clock || reuses r f
+
+-- why it ends the run
+unfoldable pub cut_reason : Run → Facts → Reason
+cut_reason r f = if expired r f.clock then Timeout else TcpReuse
+
+-- a run of packets of one key, and why the next packet of the key ended it, where one did
 pub record Piece : Type 0 where
   pub run : Run
   pub ended : Option Reason
 
--- a run that goes on, and a run that had expired when the next packet of its key came
+-- a run that goes on, and a run that a packet ends
 abbrev pub open_piece : Run → Piece
 open_piece r = record { run = r; ended = None }
 
-abbrev pub timed_out_piece : Run → Piece
-timed_out_piece r = record { run = r; ended = Some Timeout }
+abbrev pub cut_piece : Run → Facts → Piece
+cut_piece r f = record { run = r; ended = Some (cut_reason r f) }
 
--- the pieces of a run and the packets of its key that follow: a packet ends a run that had expired, and begins the next
+-- the pieces of a run and the packets of its key that follow: a packet that ends the run begins the next
 abbrev pub cut_from : Run → List Facts → List Piece
 cut_from r [] = open_piece r ∷ []
-cut_from r (f ∷ fs) =
-    if expired (sums_of r) f.clock then timed_out_piece r ∷ cut_from (alone f) fs
-    else cut_from (with_one_more f r) fs
+cut_from r (f ∷ fs) = if is_cut r f then cut_piece r f ∷ cut_from (alone f) fs else cut_from (with_one_more f r) fs
 
 -- the pieces of the packets of one key, in file order
 abbrev pub cuts : List Facts → List Piece
@@ -75,53 +89,17 @@ pub record CountOnce (facts : List Facts) (pieces : List Piece) : Type 0 where
   pub packets : sum_by (λ p. length (members p.run)) pieces ≡ length facts
   pub bytes : sum_by (λ p. sum_by (λ f. f.len) (members p.run)) pieces ≡ sum_by (λ f. f.len) facts
 
--- the flow that is kept of a piece
-abbrev pub flow_of : Piece → Flow
-flow_of p = record { sums = sums_of p.run; ended = p.ended }
+-- the verdicts on some packets of a capture with these bytes
+abbrev pub verdicts_of : List ℕ → List Facts → List App
+verdicts_of bytes packets = map (λ f. verdict_of f (payload_of bytes f)) packets
 
-abbrev pub kept : List Piece → List Flow
-kept pieces = map flow_of pieces
+-- why a run ended: what the next packet of its key ended it for; else its timeout, where it had expired at the last clock; else the end of the capture
+abbrev pub reason_of : ℕ → Piece → Reason
+reason_of clock p = unwrap_or p.ended (if expired p.run clock then Timeout else Shutdown)
 
--- the numbers rise above a number, and each packet has a clock and a length in range
-abbrev pub AreInOrder : ℕ → List Facts → Type 0
-AreInOrder above [] = Unit {0}
-AreInOrder above (f ∷ fs) = (above < f.no) × (f.clock < 2 ^ 63) × (f.len < 2 ^ 32) × AreInOrder f.no fs
+-- the record of a piece of a capture with these bytes and this last clock
+abbrev pub record_of : List ℕ → ℕ → Piece → FlowLine
+record_of bytes clock p = line_of p.run (verdicts_of bytes (members p.run)) (reason_of clock p) false
 
--- a packet comes after these, and fits into their counts
-pub record HasRoom (s : Sums) (f : Facts) : Type 0 where
-  pub later : s.last_no < f.no
-  pub to_server : InRange s.ts f
-  pub to_client : InRange s.tc f
-
--- the flow of one packet
-abbrev pub begun_flow : Facts → Flow
-begun_flow f = flow_of (open_piece (alone f))
-
--- the flow has the key, and nothing ended it
-abbrev pub is_open_of : Key → Flow → Bool
-is_open_of k flow = is_none flow.ended && same_key flow.sums.key k
-
--- the last open flow of a key stands at a place
-pub record IsLastOpen (flows : List Flow) (k : Key) (place : ℕ) : Type 0 where
-  pub within : place < length flows
-  pub own : (d : Flow) → is_open_of k (slice_index_or flows place d) ≡ true
-  pub last : list_any (λ flow. is_open_of k flow) (drop (place + 1) flows) ≡ false
-
--- the piece is open, and has the packet's key
-abbrev pub is_open : Piece → Bool
-is_open p = is_none p.ended
-
-abbrev pub takes : Facts → Piece → Bool
-takes f p = is_open p && has_key f.key p
-
--- one packet more: of the pieces that could take it the last one does, or ends where it had expired;
--- where none takes it, the packet begins a piece
-abbrev pub advanced : (Piece → Bool) → List Piece → Facts → List Piece
-advanced could [] f = open_piece (alone f) ∷ []
-advanced could (p ∷ ps) f =
-    if list_any could ps then p ∷ advanced could ps f
-    else (if could p
-    then (if expired (sums_of p.run) f.clock
-    then timed_out_piece p.run ∷ (ps ++ open_piece (alone f) ∷ [])
-    else open_piece (with_one_more f p.run) ∷ ps)
-    else p ∷ advanced could ps f)
+abbrev pub records_of : List ℕ → ℕ → List Piece → List FlowLine
+records_of bytes clock pieces = map (λ p. record_of bytes clock p) pieces

@@ -1,24 +1,22 @@
 -- What is reported of a capture: its flow records, and the counts of the stats line.
-use Rattle.std.specs.Prelude.{◌≡◌, ℕ, ◌+◌, Bool, true, false, if◌then◌else◌, List, [], ◌∷◌, ◌++◌, length, sum_by, count_by, flat_map, reverse, Ok}
-use Rattle.std.specs.Option.{unwrap_or}
+use Rattle.std.specs.Prelude.{◌≡◌, ℕ, ◌+◌, Bool, true, false, List, [], ◌∷◌, ◌++◌, length, sum_by, count_by, flat_map, reverse, Ok}
+use Rattle.suri_base.specs.Capture.{packets_in}
+use Rattle.suri_base.specs.Clock.{clock_of}
+use Rattle.suri_base.specs.Keys.{key_list}
 use Rattle.suri_base.specs.declared.facts.Facts.{Facts}
 use Rattle.suri_base.specs.declared.key.Key.{Key}
 use Rattle.suri_base.specs.declared.reason.Reason.{Reason}
 use Rattle.suri_base.specs.declared.reason.Reason.TheVariants.{Timeout, TcpReuse, Forced, Shutdown}
-use Rattle.suri_base.specs.Clock.{clock_of}
-use Rattle.suri_base.specs.Keys.{key_list}
+use Rattle.suri_base.specs.declared.seen.Seen.{Seen}
 use Rattle.pcap_read.specs.File.{CaptureFile, Reads}
+use Rattle.flow_object.specs.declared.outcome.FlowLine.{FlowLine}
 use Rattle.flow_sum.specs.Run.{members}
-use Rattle.suri_run.specs.declared.flows.Flow.{Flow}
-use Rattle.suri_run.specs.declared.stats_line.Stats.{Stats}
+use Rattle.suri_run.specs.Counts.{all_counted, counts_of}
 use Rattle.suri_run.specs.FlowLine.{flow_line}
-use Rattle.suri_run.specs.Index.{bare_frames, packets_of}
-use Rattle.suri_run.specs.Plain.{ArePlain, Piece, expired, kept, with_key}
+use Rattle.suri_run.specs.Index.{captured_of}
+use Rattle.suri_run.specs.Plain.{ArePlain, Piece, records_of, with_key}
 use Rattle.suri_run.specs.StatsLine.{stats_line}
-
--- why a flow ended: what ended it before the capture did; else its timeout, where it had expired at the last clock; else the end of the capture
-abbrev pub reason_at : ℕ → Flow → Reason
-reason_at clock f = unwrap_or f.ended (if expired f.sums clock then Timeout else Shutdown)
+use Rattle.suri_run.specs.declared.stats_line.Stats.{Stats}
 
 abbrev pub is_timeout : Reason → Bool
 is_timeout Timeout = true
@@ -26,54 +24,67 @@ is_timeout TcpReuse = false
 is_timeout Forced = false
 is_timeout Shutdown = false
 
+abbrev pub is_reuse : Reason → Bool
+is_reuse Timeout = false
+is_reuse TcpReuse = true
+is_reuse Forced = false
+is_reuse Shutdown = false
+
 abbrev pub is_shutdown : Reason → Bool
 is_shutdown Timeout = false
 is_shutdown TcpReuse = false
 is_shutdown Forced = false
 is_shutdown Shutdown = true
 
--- the counts of the stats line, over the frames of the capture and its flow records
-abbrev pub stats_of : List ℕ → CaptureFile → List Flow → Stats
-stats_of capture file flows =
-    let clock = clock_of file.frames in
-    record {
-      clock = clock;
-      capture_bytes = sum_by (λ f. f.len) file.frames;
-      cut_bytes = file.cut_bytes;
-      frames = length file.frames;
-      not_built = length (bare_frames file.link capture file.frames);
-      flow_bytes = sum_by (λ f. f.sums.ts.bytes + f.sums.tc.bytes) flows;
-      packets = sum_by (λ f. f.sums.ts.pkts + f.sums.tc.pkts) flows;
-      records = length flows;
-      shutdown = count_by (λ f. is_shutdown (reason_at clock f)) flows;
-      timeout = count_by (λ f. is_timeout (reason_at clock f)) flows;
-    }
+-- what became of the frames of a capture with these bytes, which hold this file
+abbrev pub seen_in : List ℕ → CaptureFile → List Seen
+seen_in capture file = (captured_of capture file).seen
 
--- the flow lines of these flows, where the capture ends at this clock
-abbrev pub lines_of : ℕ → List Flow → List ℕ
-lines_of clock [] = []
-lines_of clock (f ∷ flows) = flow_line f.sums (reason_at clock f) ++ lines_of clock flows
+-- the counts of the stats line, over the frames of the capture and its flow records
+abbrev pub stats_of : CaptureFile → List Seen → List FlowLine → Stats
+stats_of file seen lines = record {
+  clock = clock_of file.frames;
+  capture_bytes = sum_by (λ f. f.len) file.frames;
+  cut_bytes = file.cut_bytes;
+  frames = length file.frames;
+  decoder = counts_of seen;
+  flow_bytes = sum_by (λ l. l.sums.ts.bytes + l.sums.tc.bytes) lines;
+  packets = sum_by (λ l. l.sums.ts.pkts + l.sums.tc.pkts) lines;
+  records = length lines;
+  shutdown = count_by (λ l. is_shutdown l.reason) lines;
+  tcp_reuse = count_by (λ l. is_reuse l.reason) lines;
+  timeout = count_by (λ l. is_timeout l.reason) lines;
+}
+
+-- the seed under which flows are named
+abbrev pub seed : ℕ
+seed = 0
+
+-- the flow lines of these records
+abbrev pub lines_of : List FlowLine → List ℕ
+lines_of [] = []
+lines_of (l ∷ lines) = flow_line l seed ++ lines_of lines
 
 -- the whole text: the flow lines, and then the stats line
-abbrev pub text_of : List Flow → Stats → List ℕ
-text_of flows stats = lines_of stats.clock flows ++ stats_line stats
+abbrev pub text_of : List FlowLine → Stats → List ℕ
+text_of lines stats = lines_of lines ++ stats_line stats
 
 -- the packets of a run in file order
 abbrev pub in_file_order : Piece → List Facts
 in_file_order p = reverse (members p.run)
 
--- these flows and these counts are what is reported of a capture with these bytes
-pub record IsReport (capture : List ℕ) (flows : List Flow) (stats : Stats) : Type 0 where
+-- these records and these counts are what is reported of a capture with these bytes
+pub record IsReport (capture : List ℕ) (lines : List FlowLine) (stats : Stats) : Type 0 where
   -- the bytes are this capture file
   pub file : CaptureFile
   pub reads : Reads capture (Ok file)
   -- its packets are cut into these runs, key by key
   pub pieces : List Piece
-  pub plain : ArePlain (packets_of file.link capture file.frames) pieces
+  pub plain : ArePlain (packets_in (seen_in capture file)) pieces
   -- each run is one flow record, by rising number of its first frame
-  pub records : flows ≡ kept pieces
-  pub counts : stats ≡ stats_of capture file flows
+  pub records : lines ≡ records_of capture (clock_of file.frames) pieces
+  pub counts : stats ≡ stats_of file (seen_in capture file) lines
   -- so the runs of each key, end to end, are all packets of that key: none is lost, and none counted twice
-  pub partition : (k : Key) → flat_map in_file_order (with_key k pieces) ≡ key_list k (packets_of file.link capture file.frames)
-  -- and each frame of the capture is counted once, as one that bears no flow or in one flow record
-  pub once : stats.frames ≡ stats.not_built + stats.packets
+  pub partition : (k : Key) → flat_map in_file_order (with_key k pieces) ≡ key_list k (packets_in (seen_in capture file))
+  -- and each frame of the capture is counted once, under one decoder counter or in one flow record
+  pub once : stats.frames ≡ all_counted stats.decoder + stats.packets

@@ -10,17 +10,17 @@ use Rattle.pcap_read.specs.File.{Reads}
 use Rattle.pcap_read.specs.declared.fault.PcapFault.TheVariants.{TooMany, NoMemory}
 use Rattle.suri_run.specs.declared.cause.Cause.{Cause}
 use Rattle.suri_run.specs.declared.cause.Cause.TheVariants as cause
-use Rattle.suri_run.specs.declared.flows.Flow.{Flow}
+use Rattle.flow_object.specs.declared.outcome.FlowLine.{FlowLine}
 use Rattle.suri_run.specs.declared.stats_line.Stats.{Stats}
 use Rattle.suri_run.specs.Notes.{note_of}
 use Rattle.suri_run.specs.Report.{IsReport, text_of}
 
 -- the bytes hold a capture, and this is the text that reports it
 pub record IsOutput (capture text : List ℕ) : Type 0 where
-  pub flows : List Flow
+  pub lines : List FlowLine
   pub stats : Stats
-  pub report : IsReport capture flows stats
-  pub is_text : text ≡ text_of flows stats
+  pub report : IsReport capture lines stats
+  pub is_text : text ≡ text_of lines stats
 
 -- why the bytes have no text
 abbrev pub IsRefusal : List ℕ → Cause → Type 0

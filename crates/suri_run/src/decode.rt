@@ -1,150 +1,62 @@
-//! From the bytes of a frame to the facts of its packet.
+//! From the bytes of a frame to what becomes of it.
+ghost use Rattle.flow_key.specs.SameFlow.{IsKeyable};
+ghost use Rattle.packet_decode.specs.declared.whole.View.{View};
 ghost use Rattle.pcap_read.specs.Header.{IsLink};
-ghost use Rattle.std.specs.Prelude.{◌≡◌, ◌+◌, ◌^◌, ◌<◌, ◌≤◌, IfSome, length};
-ghost use Rattle.suri_run.specs.Decode.{
-  dest_of,
-  facts_from,
-  facts_of,
-  is_at_most,
-  key_between,
-  payload_length,
-  side_between,
-  source_of,
-  udp_of,
-};
+ghost use Rattle.std.specs.Prelude.{◌≡◌, ◌+◌, ◌^◌, ◌<◌, ◌≤◌, ◌⊎◌, length};
+ghost use Rattle.suri_base.specs.Capture.{IsKey, IsSeenOf};
+ghost use Rattle.suri_base.specs.declared.facts.Facts.{Facts};
+ghost use Rattle.suri_base.specs.declared.seen.Seen.TheVariants.{Bears};
+ghost use Rattle.suri_run.specs.Decode.{facts_from, seen_of};
+ghost use Rattle.suri_run.specs.Order.{IsNameable};
 
-use byteorder::{BigEndian, ByteOrder};
-use packet_decode::laws::{Inner, to_ip};
-use suri_base::{End, Facts, Frame, Key, Side};
+use flow_key::key_of;
+use packet_decode::{View, decode};
+use suri_base::{Facts, Frame, Seen};
 
-/// The protocol number of UDP.
-const UDP: u8 = 17;
-
-// The UDP header (RFC 768): where its fields stand, and its length.
-const SOURCE_PORT: usize = 0;
-
-const DEST_PORT: usize = 2;
-
-const LENGTH: usize = 4;
-
-const HEADER_LEN: u32 = 8;
-
-// The headers down to the IP payload, where that is UDP and its header was captured.
-#[tactic(auto, unfolding(crate::specs::Decode::udp_of))]
-fn udp(link: u32, bytes: &[u8]) -> Option<Inner>
-    requires link { IsLink link }
-    requires small { length bytes.now < 2 ^ 32 }
-    ensures value { result ≡ udp_of link bytes.now }
-    ensures header { IfSome result (λ inner. 8 ≤ inner.ip.pay_len) }
-    ensures inside { IfSome result (λ inner. inner.ip.pay_at + inner.ip.pay_len ≤ length bytes.now) }
+// The facts of a frame whose headers say this, at this clock.
+fn facts_in(frame: &Frame, clock: u64, view: &View) -> Facts
+    requires keyable { IsKeyable view.now }
+    requires version { (view.now.ip.version ≡ 4) ⊎ (view.now.ip.version ≡ 6) }
+    requires addresses { view.now.ip.version ≡ 4 → (view.now.ip.src < 2 ^ 32) × (view.now.ip.dst < 2 ^ 32) }
+    requires small { frame.now.at + view.now.l4.pay_at < 2 ^ 32 }
+    ensures value { result ≡ facts_from frame.now clock view.now }
+    ensures key { IsKey result.key }
+    ensures nameable { IsNameable result.key }
 {
-    match to_ip(link, bytes) {
-        Ok(inner) => {
-            if inner.ip.proto == UDP && inner.ip.pay_len >= HEADER_LEN {
-                Some(inner)
-            } else {
-                None
-            }
-        }
-        Err(_) => None,
-    }
-}
-
-fn source(inner: &Inner, bytes: &[u8]) -> End
-    requires { inner.now.ip.pay_at + 8 ≤ length bytes.now }
-    ensures { result ≡ source_of inner.now bytes.now }
-{
-    let at = inner.ip.pay_at as usize + SOURCE_PORT;
-    End {
-        addr: inner.ip.src,
-        port: BigEndian::read_u16(&bytes[at..]),
-    }
-}
-
-fn dest(inner: &Inner, bytes: &[u8]) -> End
-    requires { inner.now.ip.pay_at + 8 ≤ length bytes.now }
-    ensures { result ≡ dest_of inner.now bytes.now }
-{
-    let at = inner.ip.pay_at as usize + DEST_PORT;
-    End {
-        addr: inner.ip.dst,
-        port: BigEndian::read_u16(&bytes[at..]),
-    }
-}
-
-// Whether an end is at most another, by address and then by port.
-fn at_most(a: &End, b: &End) -> bool
-    ensures { result ≡ is_at_most a.now b.now }
-{
-    a.addr < b.addr || a.addr == b.addr && a.port <= b.port
-}
-
-fn key(inner: &Inner, source: End, dest: End) -> Key
-    ensures { result ≡ key_between inner.now source dest }
-{
-    let (a, b) = if at_most(&source, &dest) {
-        (source, dest)
-    } else {
-        (dest, source)
-    };
-    Key {
-        vlans: inner.vlans,
-        version: inner.ip.version,
-        proto: inner.ip.proto,
-        one_way: false,
-        a,
-        b,
-    }
-}
-
-fn side(source: &End, dest: &End) -> Side
-    ensures { result ≡ side_between source.now dest.now }
-{
-    if at_most(source, dest) {
-        Side::FromA
-    } else {
-        Side::FromB
-    }
-}
-
-// How many payload bytes were captured.
-fn payload_len(inner: &Inner, bytes: &[u8]) -> u32
-    requires { inner.now.ip.pay_at + 8 ≤ length bytes.now }
-    ensures { result ≡ payload_length inner.now bytes.now }
-{
-    let at = inner.ip.pay_at as usize + LENGTH;
-    let stated = BigEndian::read_u16(&bytes[at..]) as u32;
-    let end = if stated < HEADER_LEN {
-        inner.ip.pay_len
-    } else {
-        stated.min(inner.ip.pay_len)
-    };
-    end.saturating_sub(HEADER_LEN)
-}
-
-/// The facts of a frame, where it bears a flow. `clock` is the capture clock at the frame, `link` the
-/// capture's link type, and `bytes` are the frame's captured bytes.
-#[tactic(auto, unfolding(crate::specs::Decode::facts_of))]
-pub fn facts_in(link: u32, frame: &Frame, clock: u64, bytes: &[u8]) -> Option<Facts>
-    requires link { IsLink link }
-    requires small { frame.now.at + length bytes.now ≤ 2 ^ 30 }
-    ensures { result ≡ facts_of link frame.now clock bytes.now }
-{
-    let inner = udp(link, bytes)?;
-    let source = source(&inner, bytes);
-    let dest = dest(&inner, bytes);
-    Some(Facts {
+    let keyed = key_of(view);
+    Facts {
         no: frame.no,
         time: frame.time,
         clock,
-        key: key(&inner, source, dest),
-        side: side(&source, &dest),
+        key: keyed.key,
+        side: keyed.side,
         len: frame.len,
-        ttl: inner.ip.ttl,
-        tcp: None,
-        icmp: None,
-        pay_at: frame.at + (inner.ip.pay_at + HEADER_LEN),
-        pay_len: payload_len(&inner, bytes),
+        ttl: view.ip.ttl,
+        tcp: view.l4.tcp,
+        icmp: view.l4.icmp,
+        pay_at: frame.at + view.l4.pay_at,
+        pay_len: view.l4.pay_len,
         next: 0,
-    })
+    }
+}
+
+/// What becomes of a frame: the facts of its packet, or the decoder counter under which it falls.
+///
+/// `link` is the capture's link type, `clock` the capture clock at the frame in nanoseconds since
+/// 1970-01-01T00:00:00 UTC, and `bytes` are the frame's captured bytes.
+#[tactic(auto, unfolding(crate::specs::Decode::seen_of))]
+pub fn seen_in(link: u32, frame: &Frame, clock: u64, bytes: &[u8]) -> Seen
+    requires link { IsLink link }
+    requires small { frame.now.at + length bytes.now ≤ 2 ^ 30 }
+    // It is what the frame's headers say, or the first counter that applies.
+    ensures value { result ≡ seen_of link frame.now clock bytes.now }
+    // The facts are those of the frame, and the payload lies in its bytes.
+    ensures own { IsSeenOf (frame.now.at + length bytes.now) frame.now clock result }
+    // The key can be named.
+    ensures nameable { (f : Facts) → result ≡ Bears f → IsNameable f.key }
+{
+    match decode(link, bytes) {
+        Ok(view) => Seen::Bears(facts_in(frame, clock, &view)),
+        Err(counter) => Seen::Counted(counter),
+    }
 }

@@ -1,31 +1,35 @@
 //! The flow line.
-ghost use Rattle.std.specs.Prelude.{◌≡◌, IfOk, OnOk, option_map, string_bytes};
+ghost use Rattle.std.specs.Prelude.{◌≡◌, IfOk, option_map, string_bytes};
 ghost use Rattle.serde_json.specs.Data.{Members, object};
-ghost use Rattle.serde_json.specs.View.{members_view, view};
+ghost use Rattle.serde_json.specs.View.{view};
 ghost use Rattle.suri_run.specs.FlowLine.{
-  age_of,
   client_end,
-  end_of,
+  count,
   flow_data,
   flow_line,
-  is_one_sided,
   line_data,
   line_members,
-  put_some,
-  reason_text,
+  port_data,
   server_end,
-  start_of,
-  state_text,
-  totals_data,
   vlan_data,
+  with_icmp,
+  with_parts,
+  with_ports,
 };
+ghost use Rattle.suri_run.specs.Order.{IsNameable};
 
 use crate::address::ip_text;
+use crate::flow_totals::{end, start, totals_value};
+use crate::members::with_member;
+use crate::names::{TCP, UDP, app_value, proto_name};
+use crate::tcp_part::tcp_value;
 use crate::time::utc_text;
+use community_id::community;
+use flow_object::FlowLine;
 use flow_sum::Sums;
-use serde_json::{Map, Value, json, put};
+use serde_json::{Value, json};
 use std::alloc::{AllocError, Global};
-use suri_base::{End, Reason, Side, Vlans};
+use suri_base::{End, IcmpFacts, NoMemory, Side, Vlans};
 
 // The end that is the client.
 fn client(sums: &Sums) -> End
@@ -49,79 +53,6 @@ fn server(sums: &Sums) -> End
     }
 }
 
-// The time of the earliest packet.
-fn start(sums: &Sums) -> u64
-    ensures { result ≡ start_of sums.now }
-{
-    if sums.ts.pkts == 0 {
-        sums.tc.start
-    } else if sums.tc.pkts == 0 {
-        sums.ts.start
-    } else {
-        sums.ts.start.min(sums.tc.start)
-    }
-}
-
-// The time of the latest packet.
-fn end(sums: &Sums) -> u64
-    ensures { result ≡ end_of sums.now }
-{
-    sums.ts.end.max(sums.tc.end)
-}
-
-// Whole seconds between the two.
-fn age(sums: &Sums) -> u64
-    ensures { result ≡ age_of sums.now }
-{
-    end(sums).saturating_sub(start(sums)) / 1_000_000_000
-}
-
-fn reason_name(reason: Reason) -> &'static str
-    ensures { result.now ≡ reason_text reason }
-{
-    match reason {
-        Reason::Timeout => "timeout",
-        Reason::TcpReuse => "tcp_reuse",
-        Reason::Forced => "forced",
-        Reason::Shutdown => "shutdown",
-    }
-}
-
-fn state_name(sums: &Sums) -> &'static str
-    ensures { result.now ≡ state_text sums.now }
-{
-    if sums.ts.pkts == 0 || sums.tc.pkts == 0 {
-        "new"
-    } else {
-        "established"
-    }
-}
-
-// The object `flow` of the line.
-#[tactic(auto, unfolding(crate::specs::FlowLine::totals_data))]
-fn totals_value(
-    alloc: Global,
-    sums: &Sums,
-    reason: Reason,
-    start: &str,
-    end: &str,
-) -> Result<Value, AllocError>
-    ensures { IfOk result (λ v. view v ≡ totals_data sums.now reason start.now end.now) }
-{
-    json!(in alloc; {
-        "age": age(sums),
-        "alerted": false,
-        "bytes_toclient": sums.tc.bytes,
-        "bytes_toserver": sums.ts.bytes,
-        "end": end,
-        "pkts_toclient": sums.tc.pkts,
-        "pkts_toserver": sums.ts.pkts,
-        "reason": reason_name(reason),
-        "start": start,
-        "state": state_name(sums)
-    })
-}
-
 // The VLAN ids as a value, where there is a tag.
 fn vlan_value(alloc: Global, vlans: &Vlans) -> Result<Option<Value>, AllocError>
     ensures { IfOk result (λ o. option_map view o ≡ vlan_data vlans.now) }
@@ -134,113 +65,150 @@ fn vlan_value(alloc: Global, vlans: &Vlans) -> Result<Option<Value>, AllocError>
     }
 }
 
-// Puts a member where there is one.
-fn put_member(
-    members: &mut Map<String, Value>,
-    alloc: Global,
-    key: &str,
-    value: Option<Value>,
-) -> Result<(), AllocError>
-    ensures { OnOk result (members_view members.new.entries
-        ≡ put_some key.now (option_map view value) (members_view members.old.entries)) }
+// A port as a value, for TCP and UDP.
+fn port_value(proto: u8, port: u16) -> Option<Value>
+    ensures { option_map view result ≡ port_data proto port }
 {
-    match value {
-        None => Ok(()),
-        Some(value) => put(members, alloc, key, value),
+    if proto == TCP || proto == UDP {
+        Some(Value::from(port))
+    } else {
+        None
     }
 }
 
-// The object with one member more, where there is one.
-fn with_member(
-    alloc: Global,
-    value: Value,
-    key: &str,
-    member: Option<Value>,
-) -> Result<Value, AllocError>
+// The object with the ports of both ends.
+fn with_both_ports(alloc: Global, value: Value, sums: &Sums) -> Result<Value, AllocError>
     ensures { (members : Members) → view value ≡ object members
-        → IfOk result (λ v. view v ≡ object (put_some key.now (option_map view member) members)) }
+        → IfOk result (λ v. view v ≡ object (with_ports sums.now members)) }
 {
-    match value {
-        Value::Object(mut members) => {
-            put_member(&mut members, alloc, key, member)?;
-            Ok(Value::Object(members))
-        }
-        other => Ok(other),
+    let dest = port_value(sums.key.proto, server(sums).port);
+    let value = with_member(alloc, value, "dest_port", dest)?;
+    let source = port_value(sums.key.proto, client(sums).port);
+    with_member(alloc, value, "src_port", source)
+}
+
+// The code of an ICMP header as a value.
+fn code_value(icmp: Option<IcmpFacts>) -> Option<Value>
+    ensures { option_map view result ≡ option_map (λ i. count i.code) icmp }
+{
+    match icmp {
+        None => None,
+        Some(icmp) => Some(Value::from(icmp.code)),
     }
 }
 
-// The members that each line has.
+// Its type as a value.
+fn kind_value(icmp: Option<IcmpFacts>) -> Option<Value>
+    ensures { option_map view result ≡ option_map (λ i. count i.kind) icmp }
+{
+    match icmp {
+        None => None,
+        Some(icmp) => Some(Value::from(icmp.kind)),
+    }
+}
+
+// The object with type and code of the first packet, for ICMP.
+fn with_kind(alloc: Global, value: Value, sums: &Sums) -> Result<Value, AllocError>
+    ensures { (members : Members) → view value ≡ object members
+        → IfOk result (λ v. view v ≡ object (with_icmp sums.now members)) }
+{
+    let value = with_member(alloc, value, "icmp_code", code_value(sums.icmp))?;
+    with_member(alloc, value, "icmp_type", kind_value(sums.icmp))
+}
+
+// The members that each line has, but for the object `flow`.
 fn fixed_line(
     alloc: Global,
-    sums: &Sums,
+    line: &FlowLine,
+    community: &str,
     source: &str,
     dest: &str,
     end: &str,
-    totals: &Value,
 ) -> Result<Value, AllocError>
     ensures { IfOk result (λ v. view v
-        ≡ object (line_members sums.now source.now dest.now end.now (view totals.now))) }
+        ≡ object (line_members line.now community.now source.now dest.now end.now)) }
 {
     json!(in alloc; {
+        "community_id": community,
         "dest_ip": dest,
-        "dest_port": server(sums).port,
         "event_type": "flow",
-        "flow": totals,
-        "flow_id": sums.first_no,
-        "pcap_first": sums.first_no,
-        "pcap_last": sums.last_no,
-        "proto": "UDP",
+        "flow_id": line.sums.first_no,
+        "pcap_first": line.sums.first_no,
+        "pcap_last": line.sums.last_no,
+        "proto": proto_name(line.sums.key.proto),
         "src_ip": source,
-        "src_port": client(sums).port,
         "timestamp": end
     })
 }
 
-// The line around the object `flow`.
-#[tactic(auto, unfolding(crate::specs::FlowLine::line_data))]
+// The object with the members that not every line has.
+fn with_parts(alloc: Global, value: Value, line: &FlowLine) -> Result<Value, AllocError>
+    ensures { (members : Members) → view value ≡ object members
+        → IfOk result (λ v. view v ≡ object (with_parts line.now members)) }
+{
+    let value = with_both_ports(alloc, value, &line.sums)?;
+    let value = with_kind(alloc, value, &line.sums)?;
+    let app = app_value(alloc, line.app)?;
+    let value = with_member(alloc, value, "app_proto", app)?;
+    let tcp = tcp_value(alloc, line)?;
+    let value = with_member(alloc, value, "tcp", tcp)?;
+    let vlans = vlan_value(alloc, &line.sums.key.vlans)?;
+    with_member(alloc, value, "vlan", vlans)
+}
+
+// The line as a value, where the Community ID, the addresses and the end have these texts.
 fn line_value(
     alloc: Global,
-    sums: &Sums,
+    line: &FlowLine,
+    community: &str,
     source: &str,
     dest: &str,
     end: &str,
-    totals: &Value,
+    totals: Value,
 ) -> Result<Value, AllocError>
-    ensures { IfOk result
-        (λ v. view v ≡ line_data sums.now source.now dest.now end.now (view totals.now)) }
+    ensures { IfOk result (λ v. view v
+        ≡ line_data line.now community.now source.now dest.now end.now (view totals)) }
 {
-    let fixed = fixed_line(alloc, sums, source, dest, end, totals)?;
-    let vlan = vlan_value(alloc, &sums.key.vlans)?;
-    with_member(alloc, fixed, "vlan", vlan)
+    let fixed = fixed_line(alloc, line, community, source, dest, end)?;
+    let value = with_member(alloc, fixed, "flow", Some(totals))?;
+    with_parts(alloc, value, line)
 }
 
 // The line as a value.
 #[tactic(auto, unfolding(crate::specs::FlowLine::flow_data))]
-fn flow_value(alloc: Global, sums: &Sums, reason: Reason) -> Result<Value, AllocError>
-    ensures { IfOk result (λ v. view v ≡ flow_data sums.now reason) }
+fn flow_value(alloc: Global, line: &FlowLine, seed: u16) -> Result<Value, NoMemory>
+    requires { IsNameable line.now.sums.key }
+    ensures { IfOk result (λ v. view v ≡ flow_data line.now seed) }
 {
+    let sums = &line.sums;
+    let community = community(alloc, &sums.key, seed)?;
     let source = ip_text(alloc, sums.key.version, client(sums).addr)?;
     let dest = ip_text(alloc, sums.key.version, server(sums).addr)?;
     let start = utc_text(alloc, start(sums))?;
     let end = utc_text(alloc, end(sums))?;
-    let totals = totals_value(alloc, sums, reason, start.as_str(), end.as_str())?;
-    line_value(
+    let totals = totals_value(alloc, line, start.as_str(), end.as_str())?;
+    Ok(line_value(
         alloc,
-        sums,
+        line,
+        community.as_str(),
         source.as_str(),
         dest.as_str(),
         end.as_str(),
-        &totals,
-    )
+        totals,
+    )?)
 }
 
-/// The flow line of a UDP flow, with its line feed.
-#[tactic(auto, unfolding(crate::specs::FlowLine::flow_line))]
-pub fn flow_text(alloc: Global, sums: &Sums, reason: Reason) -> Result<String, AllocError>
-    ensures { IfOk result (λ s. string_bytes s ≡ flow_line sums.now reason) }
+/// The flow line of a record, with its line feed. `seed` is that of its Community ID.
+///
+/// # Errors
+///
+/// `NoMemory` where there is none for the line.
+pub fn flow_text(alloc: Global, line: &FlowLine, seed: u16) -> Result<String, NoMemory>
+    requires named { IsNameable line.now.sums.key }
+    ensures { IfOk result (λ s. string_bytes s ≡ flow_line line.now seed) }
 {
-    let value = flow_value(alloc, sums, reason)?;
-    let mut line = value.to_string(alloc)?;
-    line.push('\n')?;
-    Ok(line)
+    let value = flow_value(alloc, line, seed)?;
+    let mut text = value.to_string(alloc)?;
+    text.push('\n')?;
+    Ok(text)
 }

@@ -4,14 +4,25 @@
 
 mod address;
 mod cause;
+mod counts;
 mod decode;
+mod flow;
 mod flow_line;
+mod flow_totals;
 mod flows;
 mod index;
+mod members;
+mod names;
 mod notes;
 mod report;
 mod serve;
 mod stats_line;
+mod tally;
+mod tcp_part;
+#[cfg(test)]
+mod test_frames;
+#[cfg(test)]
+mod test_texts;
 #[cfg(test)]
 mod tests;
 mod time;

@@ -4,8 +4,8 @@ ghost use Rattle.pcap_read.specs.Header.{IsLink};
 ghost use Rattle.std.specs.Prelude.{
   ◌≡◌,
   ◌^◌,
-  ◌-◌,
   ◌≤◌,
+  All,
   IfErr,
   IfOk,
   Ok,
@@ -13,38 +13,27 @@ ghost use Rattle.std.specs.Prelude.{
   length,
   sum_by,
 };
-ghost use Rattle.suri_run.specs.Report.{IsReport, is_shutdown, is_timeout, reason_at};
+ghost use Rattle.suri_base.specs.Clock.{clock_of};
+ghost use Rattle.suri_run.specs.Order.{IsNameable};
+ghost use Rattle.suri_run.specs.Report.{IsReport, is_reuse, is_shutdown, is_timeout};
 ghost use Rattle.suri_run.specs.Run.{IsRefusal};
+ghost use Rattle.suri_run.specs.Taken.{counted};
 
 use crate::cause::Cause;
-use crate::flows::{Flow, flows_of, has_expired};
-use crate::index::{Index, make_index};
+use crate::flows::{finish_all, flows_of};
+use crate::index::make_index;
 use crate::stats_line::Stats;
+use crate::tally::count_frames;
+use flow_object::FlowLine;
 use pcap_read::{Frames, PcapFault, frames};
 use std::alloc::Global;
-use suri_base::{Facts, Frame, Reason};
+use suri_base::{Capture, Frame, Reason};
 
 /// The flow records by rising number of their first frames, and the counts.
 #[derive(Drop)]
 pub struct Report {
-    pub flows: Vec<Flow>,
+    pub lines: Vec<FlowLine>,
     pub stats: Stats,
-}
-
-/// Why a flow ended, where the capture ends at this clock (nanoseconds since 1970).
-pub fn reason(flow: &Flow, clock: u64) -> Reason
-    ensures { result ≡ reason_at clock flow.now }
-{
-    match flow.ended {
-        Some(reason) => reason,
-        None => {
-            if has_expired(&flow.sums, clock) {
-                Reason::Timeout
-            } else {
-                Reason::Shutdown
-            }
-        }
-    }
 }
 
 fn timed_out(reason: Reason) -> bool
@@ -53,6 +42,15 @@ fn timed_out(reason: Reason) -> bool
     match reason {
         Reason::Timeout => true,
         Reason::TcpReuse | Reason::Forced | Reason::Shutdown => false,
+    }
+}
+
+fn was_reused(reason: Reason) -> bool
+    ensures { result ≡ is_reuse reason }
+{
+    match reason {
+        Reason::TcpReuse => true,
+        Reason::Timeout | Reason::Forced | Reason::Shutdown => false,
     }
 }
 
@@ -66,22 +64,26 @@ fn was_shut_down(reason: Reason) -> bool
 }
 
 // How many flows ended by their timeout.
-fn count_timeouts(flows: &[Flow], clock: u64) -> usize
-    ensures { result ≡ count_by (λ f. is_timeout (reason_at clock f)) flows.now }
+fn count_timeouts(lines: &[FlowLine]) -> usize
+    ensures { result ≡ count_by (λ l. is_timeout l.reason) lines.now }
 {
-    flows
-        .iter()
-        .filter(|flow| timed_out(reason(flow, clock)))
-        .count()
+    lines.iter().filter(|line| timed_out(line.reason)).count()
+}
+
+// How many flows were ended by the reuse of their key.
+fn count_reuses(lines: &[FlowLine]) -> usize
+    ensures { result ≡ count_by (λ l. is_reuse l.reason) lines.now }
+{
+    lines.iter().filter(|line| was_reused(line.reason)).count()
 }
 
 // How many flows ended with the capture.
-fn count_shutdowns(flows: &[Flow], clock: u64) -> usize
-    ensures { result ≡ count_by (λ f. is_shutdown (reason_at clock f)) flows.now }
+fn count_shutdowns(lines: &[FlowLine]) -> usize
+    ensures { result ≡ count_by (λ l. is_shutdown l.reason) lines.now }
 {
-    flows
+    lines
         .iter()
-        .filter(|flow| was_shut_down(reason(flow, clock)))
+        .filter(|line| was_shut_down(line.reason))
         .count()
 }
 
@@ -93,73 +95,58 @@ fn frame_bytes(frames: &[Frame]) -> u64
     frames.iter().map(|frame| frame.len as u64).sum()
 }
 
-// The captured bytes of packets.
-fn packet_bytes(packets: &[Facts]) -> u64
-    requires { length packets.now ≤ 4194304 }
-    ensures { result ≡ sum_by (λ f. f.len) packets.now }
+// The counts of a capture, whose frames have so many captured bytes, and of its flow records.
+fn count(capture: &Capture, capture_bytes: u64, lines: &[FlowLine]) -> Stats
+    ensures { result ≡ counted capture.now capture_bytes lines.now }
 {
-    packets.iter().map(|packet| packet.len as u64).sum()
-}
-
-// The counts of a capture, its packets and its flows.
-fn count(file: &Frames, index: &Index, flows: &[Flow]) -> Stats
-    requires frames { length file.now.list.items ≤ 4194304 }
-    requires packets { length index.now.packets.items ≤ length file.now.list.items }
-    ensures { result ≡ record {
-      clock = index.now.clock;
-      capture_bytes = sum_by (λ f. f.len) file.now.list.items;
-      cut_bytes = file.now.cut_bytes;
-      frames = length file.now.list.items;
-      not_built = length file.now.list.items - length index.now.packets.items;
-      flow_bytes = sum_by (λ f. f.len) index.now.packets.items;
-      packets = length index.now.packets.items;
-      records = length flows.now;
-      shutdown = count_by (λ f. is_shutdown (reason_at index.now.clock f)) flows.now;
-      timeout = count_by (λ f. is_timeout (reason_at index.now.clock f)) flows.now;
-    } }
-{
+    let tally = count_frames(capture);
     Stats {
-        clock: index.clock,
-        capture_bytes: frame_bytes(&file.list),
-        cut_bytes: file.cut_bytes as u64,
-        frames: file.list.len() as u64,
-        not_built: (file.list.len() - index.packets.len()) as u64,
-        flow_bytes: packet_bytes(&index.packets),
-        packets: index.packets.len() as u64,
-        records: flows.len() as u64,
-        shutdown: count_shutdowns(flows, index.clock) as u64,
-        timeout: count_timeouts(flows, index.clock) as u64,
+        clock: capture.last_clock(),
+        capture_bytes,
+        cut_bytes: u64::from(capture.cut_bytes()),
+        frames: u64::from(capture.count()),
+        decoder: tally.counts,
+        flow_bytes: tally.flow_bytes,
+        packets: tally.packets,
+        records: lines.len() as u64,
+        shutdown: count_shutdowns(lines) as u64,
+        tcp_reuse: count_reuses(lines) as u64,
+        timeout: count_timeouts(lines) as u64,
     }
 }
 
 // The report of a capture that was read.
-fn report_of(alloc: Global, bytes: &[u8], file: &Frames) -> Result<Report, Cause>
-    requires small { length bytes.now ≤ 2 ^ 30 }
-    requires inside { AreFrames (length bytes.now) 0 file.now.list.items }
-    requires few { length file.now.list.items ≤ 4194304 }
-    requires reads { Reads bytes.now (Ok (view file.now)) }
-    requires link { IsLink file.now.link }
-    ensures report { IfOk result (λ r. IsReport bytes.now r.flows.items r.stats) }
+fn report_of(alloc: Global, bytes: Vec<u8>, file: Frames) -> Result<Report, Cause>
+    requires small { length bytes.items ≤ 2 ^ 30 }
+    requires inside { AreFrames (length bytes.items) 0 file.list.items }
+    requires few { length file.list.items ≤ 4194304 }
+    requires reads { Reads bytes.items (Ok (view file)) }
+    requires link { IsLink file.link }
+    ensures report { IfOk result (λ r. IsReport bytes.items r.lines.items r.stats) }
+    ensures named { IfOk result (λ r. All (λ line. IsNameable line.sums.key) r.lines.items) }
     ensures memory { IfErr result (λ c. c ≡ Cause.NoMemory) }
 {
-    let index = make_index(alloc, file.link, bytes, &file.list)?;
-    let flows = flows_of(alloc, &index.packets)?;
-    let stats = count(file, &index, &flows);
-    Ok(Report { flows, stats })
+    let capture_bytes = frame_bytes(&file.list);
+    let capture = make_index(alloc, bytes, file)?;
+    let flows = flows_of(alloc, &capture)?;
+    let lines = finish_all(alloc, flows, capture.last_clock())?;
+    let stats = count(&capture, capture_bytes, &lines);
+    Ok(Report { lines, stats })
 }
 
 /// The report of the capture in these bytes. It refuses what is no capture, and a capture with more
 /// than 4,194,304 frames; else it can only want memory.
-pub fn make_report(alloc: Global, bytes: &[u8]) -> Result<Report, Cause>
-    requires { length bytes.now ≤ 2 ^ 30 }
-    ensures report { IfOk result (λ r. IsReport bytes.now r.flows.items r.stats) }
-    ensures refused { IfErr result (IsRefusal bytes.now) }
+pub fn make_report(alloc: Global, bytes: Vec<u8>) -> Result<Report, Cause>
+    requires { length bytes.items ≤ 2 ^ 30 }
+    ensures report { IfOk result (λ r. IsReport bytes.items r.lines.items r.stats) }
+    ensures named { IfOk result (λ r. All (λ line. IsNameable line.sums.key) r.lines.items) }
+    ensures refused { IfErr result (IsRefusal bytes.items) }
 {
-    let file = match frames(alloc, bytes) {
+    let file = match frames(alloc, &bytes) {
         Ok(file) => file,
         Err(PcapFault::NoMemory) => return Err(Cause::NoMemory),
         Err(PcapFault::TooMany) => return Err(Cause::ManyFrames),
         Err(fault) => return Err(Cause::Refused(fault)),
     };
-    report_of(alloc, bytes, &file)
+    report_of(alloc, bytes, file)
 }

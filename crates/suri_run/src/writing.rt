@@ -1,56 +1,53 @@
 //! Writing a report: its flow lines and its stats line, gathered into large pieces.
 ghost use Rattle.std.specs.Io.KnownBytes.{Appends};
-ghost use Rattle.std.specs.Prelude.{◌≡◌, ◌≤◌, ◌++◌, IfErr, IfOk, OnErr, OnOk};
+ghost use Rattle.std.specs.Prelude.{◌≡◌, ◌≤◌, ◌++◌, All, IfErr, IfOk, OnErr, OnOk};
 ghost use Rattle.suri_outside.specs.Bytes.{TakesAllBut, TakesFront};
 ghost use Rattle.suri_run.specs.FlowLine.{flow_line};
-ghost use Rattle.suri_run.specs.Report.{lines_of, reason_at, text_of};
+ghost use Rattle.suri_run.specs.Order.{IsNameable};
+ghost use Rattle.suri_run.specs.Report.{lines_of, seed, text_of};
 ghost use Rattle.suri_run.specs.Run.{IsWriteCause};
 ghost use Rattle.suri_run.specs.StatsLine.{stats_line};
 
 use crate::cause::Cause;
 use crate::flow_line::flow_text;
-use crate::flows::Flow;
-use crate::report::{Report, reason};
+use crate::report::Report;
 use crate::stats_line::{Stats, stats_text};
+use flow_object::FlowLine;
 use std::alloc::Global;
 use suri_outside::{Failed, Gathered, Sink};
 
-// Sends the line of a flow behind what waits.
-fn send_flow<K: Sink>(
+/// The seed under which flows are named (Community ID Flow Hashing, version 1).
+const SEED: u16 = 0;
+
+// Sends the line of a record behind what waits.
+fn send_line<K: Sink>(
     alloc: Global,
     sink: &mut K,
     gathered: &mut Gathered,
-    flow: &Flow,
-    clock: u64,
+    line: &FlowLine,
 ) -> Result<(), Cause>
-    ensures ok { OnOk result (TakesAllBut (K.taken sink.old) (K.taken sink.new) gathered.new
-        (gathered.old ++ flow_line flow.now.sums (reason_at clock flow.now))) }
-    ensures front { OnErr result (TakesFront (K.taken sink.old) (K.taken sink.new)
-        (gathered.old ++ flow_line flow.now.sums (reason_at clock flow.now))) }
+    requires { IsNameable line.now.sums.key }
+    ensures ok { OnOk result (TakesAllBut (K.taken sink.old) (K.taken sink.new) gathered.new (gathered.old ++ flow_line line.now seed)) }
+    ensures front { OnErr result (TakesFront (K.taken sink.old) (K.taken sink.new) (gathered.old ++ flow_line line.now seed)) }
     ensures cause { IfErr result (IsWriteCause (K.faults sink.old) (K.faults sink.new)) }
     ensures later { K.faults sink.old ≤ K.faults sink.new }
 {
-    let line = flow_text(alloc, &flow.sums, reason(flow, clock))?;
-    gathered.add(sink, line.as_bytes())?;
+    let text = flow_text(alloc, line, SEED)?;
+    gathered.add(sink, text.as_bytes())?;
     Ok(())
 }
 
-// Sends the lines of all flows. What is answered still waits.
-fn send_flows<K: Sink>(
-    alloc: Global,
-    sink: &mut K,
-    flows: &[Flow],
-    clock: u64,
-) -> Result<Gathered, Cause>
-    ensures ok { IfOk result (λ g. TakesAllBut (K.taken sink.old) (K.taken sink.new) g
-        (lines_of clock flows.now)) }
-    ensures front { OnErr result (TakesFront (K.taken sink.old) (K.taken sink.new) (lines_of clock flows.now)) }
+// Sends the lines of all records. What is answered still waits.
+fn send_lines<K: Sink>(alloc: Global, sink: &mut K, lines: &[FlowLine]) -> Result<Gathered, Cause>
+    requires { All (λ line. IsNameable line.sums.key) lines.now }
+    ensures ok { IfOk result (λ g. TakesAllBut (K.taken sink.old) (K.taken sink.new) g (lines_of lines.now)) }
+    ensures front { OnErr result (TakesFront (K.taken sink.old) (K.taken sink.new) (lines_of lines.now)) }
     ensures cause { IfErr result (IsWriteCause (K.faults sink.old) (K.faults sink.new)) }
     ensures later { K.faults sink.old ≤ K.faults sink.new }
 {
     let mut gathered = Gathered::new(alloc);
-    for flow in flows {
-        send_flow(alloc, sink, &mut gathered, flow, clock)?;
+    for line in lines {
+        send_line(alloc, sink, &mut gathered, line)?;
     }
     Ok(gathered)
 }
@@ -77,13 +74,14 @@ fn send_stats<K: Sink>(
 
 /// Writes the text of a report. Where memory runs out or a write fails, a front of it was written.
 pub fn write_report<K: Sink>(alloc: Global, sink: &mut K, report: &Report) -> Result<(), Cause>
+    requires { All (λ line. IsNameable line.sums.key) report.now.lines.items }
     ensures ok { OnOk result (Appends (K.taken sink.old) (K.taken sink.new)
-        (text_of report.now.flows.items report.now.stats)) }
+        (text_of report.now.lines.items report.now.stats)) }
     ensures front { OnErr result (TakesFront (K.taken sink.old) (K.taken sink.new)
-        (text_of report.now.flows.items report.now.stats)) }
+        (text_of report.now.lines.items report.now.stats)) }
     ensures cause { IfErr result (IsWriteCause (K.faults sink.old) (K.faults sink.new)) }
     ensures later { K.faults sink.old ≤ K.faults sink.new }
 {
-    let gathered = send_flows(alloc, sink, &report.flows, report.stats.clock)?;
+    let gathered = send_lines(alloc, sink, &report.lines)?;
     send_stats(alloc, sink, gathered, &report.stats)
 }

@@ -8,6 +8,6 @@ use Rattle.suri_run.proofs.flow_line.flow_text.Goals as goal
 pub returns : goal.returns
 unfolding flow_line
 returns c =
-    let free : has_float (view c.in_ok-value.value) ≡ false = rw c.in_ok-value.ensures (flow_free c.args.sums.now c.args.reason) in
-    let text : string_bytes c.in_ok-line.line ≡ compact_text (flow_data c.args.sums.now c.args.reason) = rw c.in_ok-value.ensures at (c.in_ok-line.ensures.text free) in
+    let free : has_float (view c.in_ok-value.value) ≡ false = rw c.in_ok-value.ensures (flow_free c.args.line.now c.args.seed) in
+    let text : string_bytes c.in_ok-text.text ≡ compact_text (flow_data c.args.line.now c.args.seed) = rw c.in_ok-value.ensures at (c.in_ok-text.ensures.text free) in
     rw (c.in_ok-push.ensures.bytes, text, c.in_ok-push.ensures.ascii (omega arith)) refl

@@ -1,11 +1,17 @@
+use Rattle.std.proofs.Common.{All, subst, sym}
 use Rattle.pcap_read.specs.File.{view}
+use Rattle.suri_run.specs.Order.{IsNameable}
+use Rattle.suri_run.proofs.Records.{all_named}
 use Rattle.suri_run.proofs.Reported.{reported}
 use Rattle.suri_run.proofs.report.report_of.Goals as goal
 
 pub returns-clause-report : goal.returns-clause-report
 returns-clause-report c =
-    let plain = c.in_ok-flows.ensures in
-    reported c.args.bytes.now (view c.args.file.now) c.in_ok-index.index.clock c.in_ok-index.index.packets.items plain.0 c.in_ok-flows.flows.items c.count-stats.result
-    c.requires.reads (rw c.deref.ensures.value at c.in_ok-index.ensures.packets) (rw c.deref.ensures.value at c.in_ok-index.ensures.clock)
-    (rw c.deref-2.ensures.value at plain.1) plain.2 (rw c.deref-2.ensures.value at plain.3)
-    (rw c.deref-3.ensures.value at c.count-stats.ensures)
+    let plain = c.in_ok-flows.ensures.flows in
+    reported c.args.bytes.items (view c.args.file) c.in_ok-capture.capture c.frame_bytes-capture_bytes.result c.last_clock.result plain.0 c.in_ok-flows.flows.items c.in_ok-lines.lines.items
+    c.count-stats.result c.requires.reads c.in_ok-capture.ensures.value (rw c.deref.ensures.value at c.frame_bytes-capture_bytes.ensures) c.last_clock.ensures.greatest plain.1 plain.2 plain.3
+    c.in_ok-lines.ensures (rw c.deref-2.ensures.value at c.count-stats.ensures)
+
+pub returns-clause-named : goal.returns-clause-named
+returns-clause-named c =
+    subst (All (λ line. IsNameable line.sums.key)) (sym c.in_ok-lines.ensures) (all_named c.last_clock.result c.in_ok-flows.flows.items c.in_ok-flows.ensures.settled)

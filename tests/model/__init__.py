@@ -1,0 +1,35 @@
+"""An independent model of suri_run, written from the formats and not from the program.
+
+    python3 tests/model < capture > lines     the text; a note on standard error; the program's status
+
+It keeps whole lists and looks them through, with none of the program's structure, so that the two
+can be compared on any capture (tests/compare.py).
+"""
+from model.capture import Refused, read
+from model.decode import Counted, decode
+from model.flows import runs_of
+from model.lines import flow_line, stats_line
+
+
+def frames_seen(data):
+    """The frames of a capture, each with its packet or with the name of its counter; and the bytes of a cut tail."""
+    link, found, cut_bytes = read(data)
+    clock, seen = 0, []
+    for number, (time, frame) in enumerate(found, 1):
+        clock = max(clock, time)
+        try:
+            what = decode(link, frame)._replace(number=number, time=time, clock=clock, length=len(frame))
+        except Counted as counted:
+            what = counted.args[0]
+        seen.append((frame, what))
+    return seen, clock, cut_bytes
+
+
+def text(data):
+    """The whole text for these bytes, or Refused."""
+    seen, clock, cut_bytes = frames_seen(data)
+    counters = [what for _, what in seen if isinstance(what, str)]
+    packets = [what for _, what in seen if not isinstance(what, str)]
+    runs = runs_of(packets, clock)
+    capture = {"bytes": sum(len(frame) for frame, _ in seen), "cut_bytes": cut_bytes, "frames": len(seen)}
+    return "".join(map(flow_line, runs)) + stats_line(capture, counters, runs, clock)
