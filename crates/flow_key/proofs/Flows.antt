@@ -1,13 +1,14 @@
 -- Two packets have the same key exactly where they are of the same flow.
 use Rattle.std.proofs.Common.{◌≡◌, ℕ, ◌<◌, ◌^◌, Bool, true, false, ◌⊎◌, inl, inr, Option, Some, None, refl, sym, ap, ◌∙◌}
 use Rattle.std.specs.Prelude.{◌↔◌, ◌||◌, if◌then◌else◌, is_none, unwrap_or, IsSome}
+use Rattle.suri_base.specs.Keys.{is_at_most}
+use Rattle.suri_base.specs.Protocols.{is_icmp}
 use Rattle.suri_base.specs.declared.facts.IcmpFacts.{IcmpFacts}
 use Rattle.suri_base.specs.declared.key.End.{End}
 use Rattle.suri_base.specs.declared.key.Key.{Key}
 use Rattle.suri_base.specs.declared.key.Vlans.{Vlans}
-use Rattle.l4_decode.specs.Transport.{is_icmp}
 use Rattle.packet_decode.specs.declared.whole.View.{View}
-use Rattle.flow_key.specs.Ends.{destination_end, destination_port, has_no_counterpart, is_at_most, is_one_way, source_end, source_port}
+use Rattle.flow_key.specs.Ends.{destination_end, destination_port, has_no_counterpart, is_one_way, source_end, source_port}
 use Rattle.flow_key.specs.Keyed.{keyed_of, source_first}
 use Rattle.flow_key.specs.Pairs.{counterpart_of}
 use Rattle.flow_key.specs.SameFlow.{Answers, IsKeyable, SameFlow, SameOrdered, vlan_list}

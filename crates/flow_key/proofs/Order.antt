@@ -2,8 +2,8 @@
 use Rattle.std.proofs.Common.{◌≡◌, ℕ, Bool, true, false, ◌⊎◌, inl, inr, refl, sym, ap, ◌∙◌, arith}
 use Rattle.std.specs.Prelude.{if◌then◌else◌}
 use Rattle.std.proofs.lemmas.Bool.Decides.{nat_tests}
+use Rattle.suri_base.specs.Keys.{is_at_most}
 use Rattle.suri_base.specs.declared.key.End.{End}
-use Rattle.flow_key.specs.Ends.{is_at_most}
 
 -- the lesser of two ends, and the greater
 abbrev pub lesser : End → End → End

@@ -1,5 +1,5 @@
 -- The two ends of a packet.
-use Rattle.std.specs.Prelude.{ℕ, ◌==◌, ◌&&◌, ◌||◌, nat_lt, nat_le, Bool, false, Option, Some, None, is_none, unwrap_or}
+use Rattle.std.specs.Prelude.{ℕ, Bool, false, Option, Some, None, is_none, unwrap_or}
 use Rattle.suri_base.specs.declared.facts.IcmpFacts.{IcmpFacts}
 use Rattle.suri_base.specs.declared.key.End.{End}
 use Rattle.packet_decode.specs.declared.whole.View.{View}
@@ -29,7 +29,3 @@ destination_end v = record { addr = v.ip.dst; port = destination_port v.ip.versi
 -- whether the ends are an ordered pair
 abbrev pub is_one_way : View → Bool
 is_one_way v = has_no_counterpart v.ip.version v.l4.icmp
-
--- whether an end is at most another, by address and then by port
-abbrev pub is_at_most : End → End → Bool
-is_at_most a b = nat_lt a.addr b.addr || (a.addr == b.addr) && nat_le a.port b.port

@@ -1,9 +1,10 @@
 -- The key of a packet, and which end of it sent the packet.
 use Rattle.std.specs.Prelude.{◌||◌, Bool, if◌then◌else◌}
+use Rattle.suri_base.specs.Keys.{is_at_most}
 use Rattle.suri_base.specs.declared.key.Side.TheVariants.{FromA, FromB}
 use Rattle.packet_decode.specs.declared.whole.View.{View}
 use Rattle.flow_key.specs.declared.keyed.Keyed.{Keyed}
-use Rattle.flow_key.specs.Ends.{destination_end, is_at_most, is_one_way, source_end}
+use Rattle.flow_key.specs.Ends.{destination_end, is_one_way, source_end}
 
 -- whether the source is the first end: in a one-way key always, else where it is at most the destination
 abbrev pub source_first : View → Bool

@@ -1,7 +1,8 @@
 -- When two packets are of one flow.
 use Rattle.std.specs.Prelude.{◌≡◌, ℕ, ◌<◌, ◌≤◌, ◌⊎◌, ◌↔◌, ◌||◌, true, false, List, [], ◌∷◌, take, IsSome, IsTrue}
+use Rattle.suri_base.specs.Protocols.{is_icmp}
 use Rattle.suri_base.specs.declared.key.Vlans.{Vlans}
-use Rattle.l4_decode.specs.Transport.{has_ports, is_icmp}
+use Rattle.l4_decode.specs.Transport.{has_ports}
 use Rattle.packet_decode.specs.declared.whole.View.{View}
 use Rattle.flow_key.specs.Ends.{destination_end, is_one_way, source_end}
 

@@ -1,6 +1,7 @@
 //! The two ends of a packet, in the order in which it was sent.
 ghost use Rattle.std.specs.Prelude.{◌≡◌, ◌||◌};
-ghost use Rattle.flow_key.specs.Ends.{destination_end, is_at_most, is_one_way, source_end};
+ghost use Rattle.flow_key.specs.Ends.{destination_end, is_one_way, source_end};
+ghost use Rattle.suri_base.specs.Keys.{is_at_most};
 
 use crate::pairs::counterpart;
 use packet_decode::View;

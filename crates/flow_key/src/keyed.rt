@@ -1,9 +1,10 @@
 //! From what the headers of a frame say to its key.
 ghost use Rattle.std.specs.Prelude.{◌≡◌, ◌^◌, ◌<◌, ◌↔◌, IsTrue, false};
-ghost use Rattle.flow_key.specs.Ends.{destination_end, is_at_most, is_one_way, source_end};
+ghost use Rattle.flow_key.specs.Ends.{destination_end, is_one_way, source_end};
 ghost use Rattle.flow_key.specs.Keyed.{keyed_of};
 ghost use Rattle.flow_key.specs.SameFlow.{IsKeyable, SameFlow};
 ghost use Rattle.packet_decode.specs.declared.whole.View.{View};
+ghost use Rattle.suri_base.specs.Keys.{is_at_most};
 
 use crate::ends::{Ends, ends_of, is_source_first};
 use packet_decode::View;

@@ -1,12 +1,13 @@
 -- What the transport header of an IP packet says, or the first counter that applies.
-use Rattle.std.specs.Prelude.{ℕ, ◌-◌, ◌*◌, ◌/◌, ◌&&◌, ◌||◌, ◌==◌, min, nat_lt, Bool, if◌then◌else◌, List, length, slice_index, Some, None, Result, Ok, Err}
+use Rattle.std.specs.Prelude.{ℕ, ◌-◌, ◌*◌, ◌/◌, ◌||◌, ◌==◌, min, nat_lt, Bool, if◌then◌else◌, List, length, slice_index, Some, None, Result, Ok, Err}
+use Rattle.suri_base.specs.Protocols.{is_icmp}
 use Rattle.suri_base.specs.declared.counter.Counter.{Counter}
 use Rattle.suri_base.specs.declared.counter.Counter.TheVariants.{TcpSmall, TcpHeader, UdpSmall, IcmpSmall, OtherProto}
 use Rattle.l4_decode.specs.declared.view.L4View.{L4View}
 use Rattle.l4_decode.specs.declared.tcp.TheConstants as tcp
 use Rattle.l4_decode.specs.declared.udp.TheConstants as udp
 use Rattle.l4_decode.specs.declared.icmp.TheConstants as icmp
-use Rattle.l4_decode.specs.declared.reading.TheConstants.{TCP, UDP, ICMP, ICMP_OF_IPV6, IPV4, IPV6}
+use Rattle.l4_decode.specs.declared.reading.TheConstants.{TCP, UDP}
 use Rattle.l4_decode.specs.Fields.{number_at}
 
 -- TCP: the data offset in bytes, four times the upper four bits of its byte
@@ -64,10 +65,6 @@ icmp_of bytes =
 -- whether the protocol has ports
 abbrev pub has_ports : ℕ → Bool
 has_ports proto = (proto == TCP) || (proto == UDP)
-
--- whether the protocol is the ICMP of this IP version
-abbrev pub is_icmp : ℕ → ℕ → Bool
-is_icmp version proto = (version == IPV4) && (proto == ICMP) || (version == IPV6) && (proto == ICMP_OF_IPV6)
 
 -- the transport header of a packet of this IP version and protocol, which states so many payload bytes
 unfoldable pub l4_of : ℕ → ℕ → ℕ → List ℕ → Result L4View Counter

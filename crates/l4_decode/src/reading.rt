@@ -1,6 +1,7 @@
 //! From the payload of an IP packet to what its transport header says.
 ghost use Rattle.std.specs.Prelude.{◌≡◌, ◌+◌, ◌^◌, ◌<◌, ◌≤◌, ◌↔◌, ◌||◌, IfOk, IsSome, IsTrue, length};
-ghost use Rattle.l4_decode.specs.Transport.{has_ports, is_icmp, l4_of};
+ghost use Rattle.l4_decode.specs.Transport.{has_ports, l4_of};
+ghost use Rattle.suri_base.specs.Protocols.{is_icmp};
 
 use crate::icmp::read_icmp;
 use crate::tcp::read_tcp;

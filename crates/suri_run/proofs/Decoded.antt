@@ -5,7 +5,9 @@ use Rattle.flow_key.specs.Keyed.{keyed_of}
 use Rattle.flow_key.specs.SameFlow.{IsKeyable}
 use Rattle.flow_key.specs.declared.keyed.Keyed.{Keyed}
 use Rattle.packet_decode.specs.declared.whole.View.{View}
-use Rattle.suri_base.specs.Capture.{AreFactsOf, IsKey, is_at_most, is_icmp}
+use Rattle.suri_base.specs.Capture.{AreFactsOf, IsKey}
+use Rattle.suri_base.specs.Keys.{is_at_most}
+use Rattle.suri_base.specs.Protocols.{is_icmp}
 use Rattle.suri_base.specs.declared.counter.Counter.{Counter}
 use Rattle.suri_base.specs.declared.facts.Facts.{Facts}
 use Rattle.suri_base.specs.declared.frame.Frame.{Frame}

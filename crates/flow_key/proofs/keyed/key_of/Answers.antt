@@ -1,7 +1,7 @@
 use Rattle.std.proofs.Common.{◌≡◌, ◌<◌, ◌^◌, false, true, sym, subst}
 use Rattle.std.specs.Prelude.{◌↔◌}
+use Rattle.suri_base.specs.Keys.{is_at_most}
 use Rattle.flow_key.specs.declared.keyed.Keyed.{Keyed}
-use Rattle.flow_key.specs.Ends.{is_at_most}
 use Rattle.flow_key.specs.Keyed.{keyed_of}
 use Rattle.flow_key.specs.SameFlow.{SameFlow}
 use Rattle.flow_key.proofs.Flows.{key_addresses, key_in_order, same_keys}
