@@ -27,11 +27,11 @@ fn empty_stream() -> StreamLine
 
 /// Makes the record of a flow that ended. The object comes back without nodes, with the settings that it had.
 pub fn finish_flow(ended: Ended) -> Finished
-    ensures line { result.line ≡ line_in ended.obj.value ended.reason ended.emergency }
+    ensures line { result.line ≡ line_in ended.obj ended.reason ended.emergency }
     // It is the record of the run's packets and of the verdicts on them.
-    ensures of_run { (r : Run) (judged : List App) → ended.obj.value ≡ object_of ended.obj.value.depth r judged
+    ensures of_run { (r : Run) (judged : List App) → ended.obj ≡ object_of ended.obj.depth r judged
         → result.line ≡ line_of r judged ended.reason ended.emergency }
-    ensures settings { result.obj.value.depth ≡ ended.obj.value.depth }
+    ensures settings { result.obj.depth ≡ ended.obj.depth }
     ensures freed { result.freed ≡ [] }
 {
     let Ended {

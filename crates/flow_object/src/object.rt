@@ -88,7 +88,7 @@ fn blank(depth: u32) -> FlowObj
 }
 
 impl FlowObj {
-    /// An object of no run. `depth` is its setting: how many bytes of each stream are looked at. No call changes it.
+    /// An object of no run. `depth` is its setting: how many bytes of each stream may be looked at (none is yet). No call changes it.
     ///
     /// # Errors
     ///

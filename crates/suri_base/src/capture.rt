@@ -68,6 +68,8 @@ impl Capture {
         ensures count { result ≡ length self.now.frames }
         ensures same { result ≡ length self.now.seen }
         ensures few { result ≤ 4194304 }
+        // The parts of the capture fit together.
+        ensures fits { IsCapture self.now }
     {
         self.frames.len() as u32
     }
