@@ -1,7 +1,8 @@
 //! The nodes that a segment pool lends out.
-ghost use Rattle.std.specs.Prelude.{◌≡◌, IfOk};
-ghost use Rattle.suri_base.specs.Chain.{piece_of, IsAlone};
-ghost use Rattle.suri_base.specs.Piece.{blank};
+ghost use Rattle.std.specs.Option.{option_copied};
+ghost use Rattle.std.specs.Prelude.{◌≡◌, ◌∷◌, IfOk};
+ghost use Rattle.suri_base.specs.Chain.{node_of, nodes_at, nodes_from, IsAlone};
+ghost use Rattle.suri_base.specs.Node.{blank};
 
 use crate::memory::NoMemory;
 use std::alloc::Global;
@@ -32,7 +33,7 @@ impl Segment {
     ///
     /// It fails only where no memory is left.
     pub fn blank(alloc: Global) -> Result<Box<Segment>, NoMemory>
-        ensures numbers { IfOk result (λ node. piece_of node.value ≡ blank) }
+        ensures numbers { IfOk result (λ node. node_of node.value ≡ blank) }
         ensures alone { IfOk result (λ node. IsAlone node.value) }
     {
         let node = Segment {
@@ -46,5 +47,15 @@ impl Segment {
             more: None,
         };
         Ok(Box::new(alloc, node)?)
+    }
+
+    /// The node after it, where it stands in a chain.
+    pub fn next(&self) -> Option<&Segment>
+        ensures { nodes_from self.now ≡ node_of self.now ∷ nodes_at (option_copied result) }
+    {
+        match &self.more {
+            Some(node) => Some(node),
+            None => None,
+        }
     }
 }

@@ -1,6 +1,7 @@
 //! A chain of nodes.
+ghost use Rattle.std.specs.Option.{option_copied};
 ghost use Rattle.std.specs.Prelude.{◌≡◌, [], ◌∷◌, IsTrue, ◌↔◌, MatchOption};
-ghost use Rattle.suri_base.specs.Chain.{piece_of, IsAlone};
+ghost use Rattle.suri_base.specs.Chain.{node_of, nodes_at, IsAlone};
 
 use crate::segment::Segment;
 use std::marker::Model;
@@ -12,13 +13,13 @@ pub struct Segments {
 
 impl Model for Segments {
     ghost use Rattle.std.specs.Prelude.{List};
-    ghost use Rattle.suri_base.specs.Piece.{Piece};
+    ghost use Rattle.suri_base.specs.Node.{Node};
 
-    ghost Value = { List Piece };
+    ghost Value = { List Node };
 
-    ghost use Rattle.suri_base.specs.Chain.{pieces, IsChain};
+    ghost use Rattle.suri_base.specs.Chain.{nodes, IsChain};
 
-    ghost view = { λ s. pieces s.head };
+    ghost view = { λ s. nodes s.head };
 
     ghost invariant = { λ s. IsChain s.head };
 }
@@ -38,10 +39,17 @@ impl Segments {
         self.head.is_none()
     }
 
+    /// The front node; none where the chain is empty.
+    pub fn front(&self) -> Option<&Segment>
+        ensures { nodes_at (option_copied result) ≡ self.now }
+    {
+        self.head.as_deref()
+    }
+
     /// Puts the node in front.
     pub fn push(&mut self, mut node: Box<Segment>)
         requires { IsAlone node.value }
-        ensures { self.new ≡ piece_of node.value ∷ self.old }
+        ensures { self.new ≡ node_of node.value ∷ self.old }
     {
         node.more = self.head.take();
         self.head = Some(node);
@@ -49,7 +57,7 @@ impl Segments {
 
     /// Takes the front node out, without links. `None` comes exactly where the chain is empty.
     pub fn pop(&mut self) -> Option<Box<Segment>>
-        ensures { MatchOption result ((self.old ≡ []) × (self.new ≡ [])) (λ node. IsAlone node.value × (self.old ≡ piece_of node.value ∷ self.new)) }
+        ensures { MatchOption result ((self.old ≡ []) × (self.new ≡ [])) (λ node. IsAlone node.value × (self.old ≡ node_of node.value ∷ self.new)) }
     {
         let mut node = self.head.take()?;
         self.head = node.more.take();
