@@ -3,12 +3,8 @@ ghost use Rattle.std.specs.Prelude.{◌≡◌};
 ghost use Rattle.suri_base.specs.App.{tcp_verdict_of, udp_verdict_of, verdict_of};
 
 use crate::formats::{shows_dns, shows_http, shows_ssh, shows_tls};
+use suri_base::protocol::{TCP, UDP};
 use suri_base::{App, Facts};
-
-// The numbers of the IP protocols (RFC 9293, section 3.1; RFC 768).
-const TCP: u8 = 6;
-
-const UDP: u8 = 17;
 
 // The verdict of a TCP payload.
 fn tcp_verdict(payload: &[u8]) -> App

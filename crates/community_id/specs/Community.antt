@@ -5,11 +5,10 @@ use Rattle.base64.specs.Engines.{standard}
 use Rattle.base64.specs.GeneralPurpose.{encode_of}
 use Rattle.sha1.specs.Sha1.{sha1}
 use Rattle.suri_base.specs.declared.key.Key.{Key}
-use Rattle.community_id.specs.declared.digest.TheConstants.{IPV4}
 
 -- an address of this IP version: 4 bytes for IPv4, 16 for IPv6
 abbrev pub address_bytes : ℕ → ℕ → List ℕ
-address_bytes version address = if version == IPV4 then to_be_bytes w32 address else to_be_bytes w128 address
+address_bytes version address = if version == 4 then to_be_bytes w32 address else to_be_bytes w128 address
 
 -- a port in two bytes
 abbrev pub port_bytes : ℕ → List ℕ

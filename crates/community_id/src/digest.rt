@@ -5,13 +5,11 @@ ghost use Rattle.sha1.specs.Sha1.{Holds, sha1};
 
 use sha1::Sha1;
 use suri_base::Key;
-
-// The IP version whose addresses have 4 bytes.
-const IPV4: u8 = 4;
+use suri_base::protocol::IPV4;
 
 // Takes in an address: 4 bytes of IPv4, or 16 bytes of IPv6.
 fn take_address(hasher: &mut Sha1, version: u8, address: u128)
-    requires { version ≡ IPV4 → address < 2 ^ 32 }
+    requires { version ≡ 4 → address < 2 ^ 32 }
     ensures { (m : List ℕ) → Holds hasher.old m → Holds hasher.new (m ++ address_bytes version address) }
 {
     if version == IPV4 {
@@ -30,7 +28,7 @@ fn take_port(hasher: &mut Sha1, port: u16)
 
 /// The digest of what a key and a seed are written as.
 pub fn digest(key: &Key, seed: u16) -> [u8; 20]
-    requires { key.now.version ≡ IPV4 → (key.now.a.addr < 2 ^ 32) × (key.now.b.addr < 2 ^ 32) }
+    requires { key.now.version ≡ 4 → (key.now.a.addr < 2 ^ 32) × (key.now.b.addr < 2 ^ 32) }
     ensures { result ≡ sha1 (community_bytes key.now seed) }
 {
     let mut hasher = Sha1::new();

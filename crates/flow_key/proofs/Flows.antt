@@ -3,6 +3,7 @@ use Rattle.std.proofs.Common.{◌≡◌, ℕ, ◌<◌, ◌^◌, Bool, true, fals
 use Rattle.std.specs.Prelude.{◌↔◌, ◌||◌, if◌then◌else◌, is_none, unwrap_or, IsSome}
 use Rattle.suri_base.specs.Keys.{is_at_most}
 use Rattle.suri_base.specs.Protocols.{is_icmp}
+use Rattle.suri_base.specs.Vlans.{vlan_list}
 use Rattle.suri_base.specs.declared.facts.IcmpFacts.{IcmpFacts}
 use Rattle.suri_base.specs.declared.key.End.{End}
 use Rattle.suri_base.specs.declared.key.Key.{Key}
@@ -11,19 +12,16 @@ use Rattle.packet_decode.specs.declared.whole.View.{View}
 use Rattle.flow_key.specs.Ends.{destination_end, destination_port, has_no_counterpart, is_one_way, source_end, source_port}
 use Rattle.flow_key.specs.Keyed.{keyed_of, source_first}
 use Rattle.flow_key.specs.Pairs.{counterpart_of}
-use Rattle.flow_key.specs.SameFlow.{Answers, IsKeyable, SameFlow, SameOrdered, vlan_list}
+use Rattle.flow_key.specs.SameFlow.{Answers, IsKeyable, SameFlow, SameOrdered}
 use Rattle.flow_key.proofs.Order.{greater, greater-swap, in_order, lesser, lesser-swap, same_two}
 use Rattle.flow_key.proofs.Symmetry.{counterpart_of_symmetric}
-use Rattle.flow_key.proofs.Tags.{Unused, same_tags}
+use Rattle.flow_key.proofs.Tags.{same_tags}
 
 abbrev first_end : View → End
 first_end v = if source_first v then source_end v else destination_end v
 
 abbrev second_end : View → End
 second_end v = if source_first v then destination_end v else source_end v
-
-unused : (v : View) → IsKeyable v → Unused v.vlans
-unused v k = record { few = k.few; first = k.first_unused; second = k.second_unused; third = k.third_unused }
 
 -- the ends of a key that is one-way, and of one that isn't
 one_way_first : (v : View) → is_one_way v ≡ true → first_end v ≡ source_end v
@@ -148,7 +146,7 @@ key_of_flow : (v w : View) → IsKeyable v → IsKeyable w → SameFlow v w → 
 unfolding keyed_of
 key_of_flow v w kv kw s =
     let ways = one_way_same v w kv kw s in
-    key_same (keyed_of v).key (keyed_of w).key (same_tags v.vlans w.vlans (unused v kv) (unused w kw) s.vlans) s.version s.protocol ways (first_same v w ways s) (second_same v w ways s)
+    key_same (keyed_of v).key (keyed_of w).key (same_tags v.vlans w.vlans kv.vlans kw.vlans s.vlans) s.version s.protocol ways (first_same v w ways s) (second_same v w ways s)
 
 pub same_keys : (v w : View) → IsKeyable v → IsKeyable w → ((keyed_of v).key ≡ (keyed_of w).key) ↔ SameFlow v w
 same_keys v w kv kw = (flow_of_keys v w, key_of_flow v w kv kw)

@@ -1,14 +1,7 @@
 -- Tags are known by the list of their ids.
 use Rattle.std.proofs.Common.{◌≡◌, ℕ, zero, suc, ◌<◌, ◌≤◌, [], ◌∷◌, take, length, ap, ◌∙◌, sym, arith, length-take}
 use Rattle.suri_base.specs.declared.key.Vlans.{Vlans}
-use Rattle.flow_key.specs.SameFlow.{vlan_list}
-
--- at most three tags, with 0 in the places that are not used
-pub record Unused (v : Vlans) : Type 0 where
-  pub few : v.count ≤ 3
-  pub first : v.count < 1 → v.first ≡ 0
-  pub second : v.count < 2 → v.second ≡ 0
-  pub third : v.count < 3 → v.third ≡ 0
+use Rattle.suri_base.specs.Vlans.{AreVlans, vlan_list}
 
 abbrev tags : ℕ → ℕ → ℕ → ℕ → Vlans
 tags n a b c = record { count = n; first = a; second = b; third = c }
@@ -22,15 +15,15 @@ same_ids (suc (suc zero)) a b c a' b' c' few x y z x' y' z' e = (cc, cc, z (omeg
 same_ids (suc (suc (suc zero))) a b c a' b' c' few x y z x' y' z' e = (cc, cc, cc)
 same_ids (suc (suc (suc (suc n)))) a b c a' b' c' few x y z x' y' z' e = absurd (omega arith)
 
-counted : (v : Vlans) → v.count ≤ 3 → length (vlan_list v) ≡ v.count
-counted v few = omega (arith, few, length-take v.count (v.first ∷ v.second ∷ v.third ∷ []))
+as_many : (v : Vlans) → v.count ≤ 3 → length (vlan_list v) ≡ v.count
+as_many v few = omega (arith, few, length-take v.count (v.first ∷ v.second ∷ v.third ∷ []))
 
-pub same_tags : (v w : Vlans) → Unused v → Unused w → vlan_list v ≡ vlan_list w → v ≡ w
+pub same_tags : (v w : Vlans) → AreVlans v → AreVlans w → vlan_list v ≡ vlan_list w → v ≡ w
 same_tags v w uv uw e =
-    let count : v.count ≡ w.count = sym (counted v uv.few) ∙ ap length e ∙ counted w uw.few in
+    let count : v.count ≡ w.count = sym (as_many v uv.few) ∙ ap length e ∙ as_many w uw.few in
     let listed : take v.count (v.first ∷ v.second ∷ v.third ∷ []) ≡ take v.count (w.first ∷ w.second ∷ w.third ∷ []) =
     e ∙ ap (λ n. take n (w.first ∷ w.second ∷ w.third ∷ [])) (sym count) in
-    let ids = same_ids v.count v.first v.second v.third w.first w.second w.third uv.few uv.first uv.second uv.third (λ less. uw.first (omega (arith, less, count)))
-    (λ less. uw.second (omega (arith, less, count))) (λ less. uw.third (omega (arith, less, count))) listed in
+    let ids = same_ids v.count v.first v.second v.third w.first w.second w.third uv.few uv.first_unused uv.second_unused uv.third_unused (λ less. uw.first_unused (omega (arith, less, count)))
+    (λ less. uw.second_unused (omega (arith, less, count))) (λ less. uw.third_unused (omega (arith, less, count))) listed in
     ap (λ n. tags n v.first v.second v.third) count ∙ ap (λ n. tags w.count n v.second v.third) ids.0 ∙ ap (λ n. tags w.count w.first n v.third) ids.1
     ∙ ap (tags w.count w.first w.second) ids.2

@@ -1,23 +1,15 @@
 -- When two packets are of one flow.
-use Rattle.std.specs.Prelude.{◌≡◌, ℕ, ◌<◌, ◌≤◌, ◌⊎◌, ◌↔◌, ◌||◌, true, false, List, [], ◌∷◌, take, IsSome, IsTrue}
-use Rattle.suri_base.specs.Protocols.{is_icmp}
-use Rattle.suri_base.specs.declared.key.Vlans.{Vlans}
-use Rattle.l4_decode.specs.Transport.{has_ports}
+use Rattle.std.specs.Prelude.{◌≡◌, ◌⊎◌, ◌↔◌, ◌||◌, true, false, IsSome, IsTrue}
+use Rattle.suri_base.specs.Protocols.{has_ports, is_icmp}
+use Rattle.suri_base.specs.Vlans.{AreVlans, vlan_list}
 use Rattle.packet_decode.specs.declared.whole.View.{View}
 use Rattle.flow_key.specs.Ends.{destination_end, is_one_way, source_end}
 
--- the ids of the tags, the outermost first
-abbrev pub vlan_list : Vlans → List ℕ
-vlan_list v = take v.count (v.first ∷ v.second ∷ v.third ∷ [])
-
--- a view of a packet that bears a flow: a protocol that is read, the facts of ICMP exactly for ICMP, and at most three tags, with 0 in the places that are not used
+-- a view of a packet that bears a flow: a protocol that is read, the facts of ICMP exactly for ICMP, and VLAN ids as they are kept
 pub record IsKeyable (v : View) : Type 0 where
   pub protocol : IsTrue (has_ports v.ip.proto || is_icmp v.ip.version v.ip.proto)
   pub icmp : IsSome v.l4.icmp ↔ IsTrue (is_icmp v.ip.version v.ip.proto)
-  pub few : v.vlans.count ≤ 3
-  pub first_unused : v.vlans.count < 1 → v.vlans.first ≡ 0
-  pub second_unused : v.vlans.count < 2 → v.vlans.second ≡ 0
-  pub third_unused : v.vlans.count < 3 → v.vlans.third ≡ 0
+  pub vlans : AreVlans v.vlans
 
 -- the same source and the same destination
 abbrev pub SameOrdered : View → View → Type 0

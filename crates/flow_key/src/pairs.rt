@@ -2,8 +2,7 @@
 ghost use Rattle.std.specs.Prelude.{◌≡◌, ℕ, Some};
 ghost use Rattle.flow_key.specs.Pairs.{counterpart_in, counterpart_of, icmp_pairs, icmp_pairs_of_ipv6};
 
-// The IP version with the first of the two tables.
-const IPV4: u8 = 4;
+use suri_base::protocol::IPV4;
 
 // Types of ICMP (RFC 792; RFC 950, appendix I; RFC 1256, section 3).
 const ECHO: u8 = 8;

@@ -3,6 +3,7 @@ use Rattle.std.specs.Prelude.{ℕ, ◌==◌, ◌||◌, Bool, false, if◌then◌
 use Rattle.sha1.specs.Sha1.{sha1}
 use Rattle.suri_base.specs.App.{first_verdict}
 use Rattle.suri_base.specs.Keys.{other_side}
+use Rattle.suri_base.specs.Protocols.{is_tcp}
 use Rattle.suri_base.specs.declared.app.App.{App}
 use Rattle.suri_base.specs.declared.app.App.TheVariants as app
 use Rattle.suri_base.specs.declared.facts.Facts.{Facts}
@@ -84,13 +85,13 @@ abbrev pub is_one_sided : Run → Bool
 is_one_sided r =
     (length (sent_by (client_of (first_of r)) (members r)) == 0) || (length (sent_by (other_side (client_of (first_of r))) (members r)) == 0)
 
--- the class of a run: that of its session for TCP (protocol 6); for other protocols it is new until both sides have sent
+-- the class of a run: that of its session for TCP; for other protocols it is new until both sides have sent
 abbrev pub class_of_run : Run → Class
-class_of_run r = if (first_of r).key.proto == 6 then class_of (session_of r) else (if is_one_sided r then class.New else class.Established)
+class_of_run r = if is_tcp (first_of r).key.proto then class_of (session_of r) else (if is_one_sided r then class.New else class.Established)
 
 -- the class that an object tells
 abbrev pub class_in : Object → Class
-class_in o = if o.sums.key.proto == 6 then class_of o.state else (if (o.sums.ts.pkts == 0) || (o.sums.tc.pkts == 0) then class.New else class.Established)
+class_in o = if is_tcp o.sums.key.proto then class_of o.state else (if (o.sums.ts.pkts == 0) || (o.sums.tc.pkts == 0) then class.New else class.Established)
 
 -- no byte of a stream was looked at
 abbrev pub empty_stream : StreamLine

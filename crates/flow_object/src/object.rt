@@ -11,11 +11,9 @@ ghost use Rattle.suri_base.specs.declared.stream.Offer.TheVariants as offer;
 use flow_sum::{Dir, Sums};
 use std::alloc::Global;
 use std::marker::Model;
+use suri_base::protocol::TCP;
 use suri_base::{App, Capture, End, Facts, Key, NoMemory, Offer, Side, Vlans};
 use tcp_session::{Class, Session, State, class};
-
-// The IP protocol number of TCP (RFC 9293, section 3.1).
-const TCP: u8 = 6;
 
 // What stands in place of a key before a packet came.
 const NO_KEY: Key = Key {

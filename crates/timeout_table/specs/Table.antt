@@ -1,5 +1,6 @@
 -- The timeouts: one table, this project's own.
-use Rattle.std.specs.Prelude.{ℕ, ◌*◌, ◌^◌, ◌==◌, ◌&&◌, Bool, true, false, not, if◌then◌else◌, List, [], ◌∷◌, filter}
+use Rattle.std.specs.Prelude.{ℕ, ◌*◌, ◌^◌, ◌&&◌, Bool, true, false, not, if◌then◌else◌, List, [], ◌∷◌, filter}
+use Rattle.suri_base.specs.Protocols.{is_tcp}
 use Rattle.tcp_session.specs.declared.classes.Class.{Class}
 use Rattle.tcp_session.specs.declared.classes.Class.TheVariants.{New, Established, Closed}
 
@@ -43,6 +44,6 @@ seconds_in class (r ∷ others) = in_class class r
 abbrev pub seconds_of : Bool → Bool → Class → ℕ
 seconds_of tcp emergency class = seconds_in class (rows_for tcp emergency)
 
--- in nanoseconds; the protocol number of TCP is 6
+-- in nanoseconds
 abbrev pub timeout_of : ℕ → Class → Bool → ℕ
-timeout_of proto class emergency = seconds_of (proto == 6) emergency class * 10 ^ 9
+timeout_of proto class emergency = seconds_of (is_tcp proto) emergency class * 10 ^ 9

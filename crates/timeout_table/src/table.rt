@@ -1,14 +1,13 @@
 //! The timeouts.
-ghost use Rattle.std.specs.Prelude.{◌≡◌, ◌*◌, ◌^◌, ◌≤◌, ◌==◌, length};
+ghost use Rattle.std.specs.Prelude.{◌≡◌, ◌*◌, ◌^◌, ◌≤◌, length};
+ghost use Rattle.suri_base.specs.Protocols.{is_tcp};
 ghost use Rattle.timeout_table.specs.Table.{rows_for, seconds_of, timeout_of};
 
+use suri_base::protocol::TCP;
 use tcp_session::Class;
 
 /// A second, in nanoseconds.
 const SECOND: u64 = 1_000_000_000;
-
-// The IP protocol number of TCP (RFC 9293, section 3.1).
-const TCP: u8 = 6;
 
 // In seconds: the timeouts of TCP, and of all other protocols.
 #[tactic(auto, unfolding(crate::specs::Table::rows_for))]
@@ -35,7 +34,7 @@ fn seconds(is_tcp: bool, class: Class, emergency: bool) -> u64
 #[tactic(auto, using(crate::proofs::Once::one_row))]
 pub fn timeout(proto: u8, class: Class, emergency: bool) -> u64
     ensures value { result ≡ timeout_of proto class emergency }
-    ensures one_row { length (rows_for (proto == 6) emergency) ≡ 1 }
+    ensures one_row { length (rows_for (is_tcp proto) emergency) ≡ 1 }
     ensures at_most_an_hour { result ≤ 3600 * 10 ^ 9 }
 {
     seconds(proto == TCP, class, emergency) * SECOND
