@@ -45,15 +45,24 @@ TYPES = {
 }
 TAGS = [(), (), (), (), (5,), (7,), (5, 7), (7, 5), (5, 7, 0), (0x2005,)]
 
+# Values of options; those that are out of range or no numbers are rare.
+WORDS = {
+    "depth": ["0", "1", "2", "5", "10", "+20", "007", "1048576", "1073741824"] * 4 + ["1073741825", "-1", "5 ", "0x5"],
+    "seed": ["0", "1", "256", "65535"] * 4 + ["65536", "", "1.0"],
+    "workers": ["1", "64"] * 9 + ["0", "65"], "batch": ["1", "256"] * 9 + ["0", "257"], "round": ["1", "65536"] * 9 + ["0", "65537"],
+    "rows": ["1", "4096"] * 9 + ["0", "4097"], "memcap": ["1", "1024", "4096", "1048576"] * 9 + ["0", "1048577"],
+    "prealloc": ["0", "1048576"] * 9 + ["1048577"], "segments": ["0", "1048576"] * 9 + ["1048577"], "recovery": ["1", "100"] * 9 + ["0", "101"],
+}
+
 
 def mostly(usual, *others):
     return usual if r.random() < 0.96 else r.choice(others)
 
 
-def tcp(ports, flags, payload):
+def tcp(ports, flags, sequence, payload):
     options = bytes(4 * mostly(0, 1, 5, 10))
     words = mostly(5 + len(options) // 4, 0, 4, 6, 15)
-    return struct.pack(">HHIIBBHHH", *ports, r.randrange(2**32), 0, words << 4, flags, 65535, 0, 0) + options + payload
+    return struct.pack(">HHIIBBHHH", *ports, sequence % 2**32, 0, words << 4, flags, 65535, 0, 0) + options + payload
 
 
 def udp(ports, payload):
@@ -98,6 +107,23 @@ def frame_of(link, version, packet, tags):
     return head + struct.pack(">H", kind) + packet
 
 
+class Sender:
+    """One end's sequence numbers: segments in order, before and behind it, near the wrap and half the space away."""
+
+    def __init__(self):
+        self.next = r.choice([0, 1, 2**31 - 3, 2**31, 2**32 - 30, 2**32 - 1, r.randrange(2**32)])
+
+    def segment(self, flags, payload):
+        """The sequence number of a segment, and its payload, which overlaps others now and then with other bytes."""
+        if r.random() < 0.3 and payload:
+            payload = bytes(r.choice(b"abcdef") for _ in range(r.randint(1, 12)))
+        behind = r.choice([-20, -5, -3, -1, 1, 2, 4, 8, 2**31 - 1, 2**31, 2**31 + 1]) if r.random() < 0.4 else 0
+        sequence = self.next + behind
+        if behind <= 8:
+            self.next = max(self.next, sequence + (flags & SYN != 0) + len(payload) - (behind > 0) * (len(payload) + behind))
+        return sequence, payload
+
+
 class Talk:
     """Two ends that speak by one transport, inside the same tags."""
 
@@ -108,6 +134,7 @@ class Talk:
         self.client, self.server = ((r.choice(HOSTS[self.version]), r.choice(PORTS)) for _ in range(2))
         self.types = r.choice(TYPES[self.version])
         self.course = []
+        self.senders = {"c": Sender(), "s": Sender()}
 
     def next_step(self):
         """Who sends, and the flags that TCP has; a new course where the last one is over, at times from the other end."""
@@ -130,7 +157,9 @@ class Talk:
         source, dest = (self.client, self.server) if sender == "c" else (self.server, self.client)
         ports = source[1], dest[1]
         if self.protocol == TCP:
-            inner = tcp(ports, flags, r.choice(TCP_PAYLOADS) if flags & PSH else b"")
+            payload = r.choice(TCP_PAYLOADS) if flags & PSH or r.random() < 0.3 else b""
+            sequence, payload = self.senders[sender].segment(flags, payload)
+            inner = tcp(ports, flags, sequence, payload)
         else:
             inner = udp(ports, r.choice(UDP_PAYLOADS)) if self.protocol == UDP else self.icmp(sender)
         protocol = mostly(self.protocol, ICMP, TCP, UDP, ICMP6, 59, 0)
@@ -154,6 +183,18 @@ def record(order, unit, time, frame):
     fraction = time % SECOND // unit if r.random() < 0.99 else r.randrange(2**32)
     length = len(frame) if r.random() < 0.998 else r.choice([262_144, 262_145, 2**32 - 1])
     return struct.pack(order + "IIII", time // SECOND % 2**32, fraction, length, r.randrange(2**32)) + frame
+
+
+def words(seed):
+    """The words of the command line for the capture of this seed: mostly few and right."""
+    r.seed(f"words of {seed}")
+    pairs = [(name, r.choice(values)) for name, values in WORDS.items() if r.random() < 0.15]
+    found = [word for name, value in pairs for word in ([f"--{name}={value}"] if r.random() < 0.3 else [f"--{name}", value])]
+    if r.random() < 0.3:
+        found.append("--netflow")
+    if r.random() < 0.06:
+        found.insert(r.randrange(len(found) + 1), r.choice(["--netflow", "--netflow=true", "-d", "x", "--workers", "--dept", "", "--Seed", "--audit"]))
+    return found
 
 
 def capture(seed):

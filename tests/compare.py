@@ -1,5 +1,5 @@
 #!/usr/bin/env python3
-"""Compares the program with the model (tests/model) on random captures, sound ones and broken ones:
+"""Compares the program with the model (tests/model) on random captures, sound ones and broken ones, under random words:
 text, note and status must be the same.
 
     tests/compare.py [COUNT [SEED]]
@@ -15,20 +15,20 @@ import model
 PROGRAM = pathlib.Path(__file__).resolve().parent.parent / "bin" / "suri_run"
 
 
-def wanted(data):
+def wanted(data, words):
     try:
-        return 0, model.text(data), ""
+        return 0, model.text(data, model.options(words)), ""
     except model.Refused as refused:
         return refused.status, "", f"suri_run: {refused.note}\n"
 
 
 def differs(seed):
-    data = captures.capture(seed)
-    ran = subprocess.run([PROGRAM], input=data, capture_output=True)
-    seen, due = (ran.returncode, ran.stdout.decode(), ran.stderr.decode()), wanted(data)
+    data, words = captures.capture(seed), captures.words(seed)
+    ran = subprocess.run([PROGRAM, *words], input=data, capture_output=True)
+    seen, due = (ran.returncode, ran.stdout.decode(), ran.stderr.decode()), wanted(data, words)
     if seen == due:
         return False
-    print(f"seed {seed}: status {seen[0]} and note {seen[2]!r}; the model's {due[0]} and {due[2]!r}")
+    print(f"seed {seed}, words {' '.join(words)}: status {seen[0]} and note {seen[2]!r}; the model's {due[0]} and {due[2]!r}")
     for line, other in itertools.zip_longest(seen[1].splitlines(), due[1].splitlines(), fillvalue="no line"):
         if line != other:
             print(line, other, sep="\n")

@@ -1,6 +1,6 @@
 """An independent model of suri_run, written from the formats and not from the program.
 
-    python3 tests/model < capture > lines     the text; a note on standard error; the program's status
+    python3 tests/model [options] < capture > lines     the text; a note on standard error; the program's status
 
 It keeps whole lists and looks them through, with none of the program's structure, so that the two
 can be compared on any capture (tests/compare.py).
@@ -8,7 +8,8 @@ can be compared on any capture (tests/compare.py).
 from model.capture import Refused, read
 from model.decode import Counted, decode
 from model.flows import runs_of
-from model.lines import flow_line, stats_line
+from model.lines import flow_line, netflow_lines, stats_line
+from model.words import Options, options
 
 
 def frames_seen(data):
@@ -25,11 +26,12 @@ def frames_seen(data):
     return seen, clock, cut_bytes
 
 
-def text(data):
+def text(data, options=Options()):
     """The whole text for these bytes, or Refused."""
     seen, clock, cut_bytes = frames_seen(data)
     counters = [what for _, what in seen if isinstance(what, str)]
     packets = [what for _, what in seen if not isinstance(what, str)]
     runs = runs_of(packets, clock)
     capture = {"bytes": sum(len(frame) for frame, _ in seen), "cut_bytes": cut_bytes, "frames": len(seen)}
-    return "".join(map(flow_line, runs)) + stats_line(capture, counters, runs, clock)
+    lines = [flow_line(run, options) + (netflow_lines(run, options) if options.netflow else "") for run in runs]
+    return "".join(lines) + stats_line(capture, counters, runs, clock)

@@ -19,6 +19,7 @@ class Internet(NamedTuple):
     """What an IP header says. `stated` is the length of the payload as the header has it."""
 
     version: int
+    ttl: int
     protocol: int
     source: bytes
     dest: bytes
@@ -27,12 +28,13 @@ class Internet(NamedTuple):
 
 
 class Packet(NamedTuple):
-    """A frame that bears a flow: ports for TCP and UDP, flags for TCP alone, type and code for ICMP."""
+    """A frame that bears a flow: ports for TCP and UDP, flags and sequence number for TCP alone, type and code for ICMP."""
 
     vlans: tuple
     internet: Internet
     ports: tuple = None
     flags: int = 0
+    sequence: int = 0
     icmp: tuple = None
     payload: bytes = b""
     number: int = 0
@@ -58,7 +60,7 @@ def ipv4(packet):
     demand(len(packet) >= header, "ip_small")
     more_fragments, offset = big_endian(packet[6:8]) & 0x2000, big_endian(packet[6:8]) & 0x1FFF
     demand(not more_fragments and offset == 0, "fragment")
-    return Internet(4, packet[9], packet[12:16], packet[16:20], packet[header:total], total - header)
+    return Internet(4, packet[8], packet[9], packet[12:16], packet[16:20], packet[header:total], total - header)
 
 
 def extension_length(kind, rest):
@@ -80,7 +82,7 @@ def ipv6(packet):
             offset, more_fragments = big_endian(rest[2:4]) // 8, rest[3] & 1
             demand(offset == 0 and not more_fragments, "fragment")
         kind, rest, stated, taken = rest[0], rest[length:], stated - length, taken + 1
-    return Internet(6, kind, packet[8:24], packet[24:40], rest, stated)
+    return Internet(6, packet[7], kind, packet[8:24], packet[24:40], rest, stated)
 
 
 def internet_of(link, frame):
@@ -109,7 +111,8 @@ def decode(link, frame):
         demand(len(segment) >= 20, "tcp_small")
         header = 4 * (segment[12] >> 4)
         demand(20 <= header <= internet.stated, "tcp_header")
-        return Packet(vlans, internet, struct.unpack(">HH", segment[:4]), flags=segment[13], payload=segment[header:])
+        ports, sequence = struct.unpack(">HH", segment[:4]), big_endian(segment[4:8])
+        return Packet(vlans, internet, ports, flags=segment[13], sequence=sequence, payload=segment[header:])
     if internet.protocol == UDP:
         demand(len(segment) >= 8, "udp_small")
         length = big_endian(segment[4:6])

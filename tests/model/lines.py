@@ -5,6 +5,7 @@ from datetime import datetime, timedelta, timezone
 from model.capture import SECOND
 from model.decode import COUNTERS, ICMP, ICMP6, TCP, UDP
 from model.flows import class_of, community_id, ends, is_syn_ack, is_tcp, is_to_server, session, verdict
+from model.streams import stream
 
 PROTOCOLS = {ICMP: "ICMP", TCP: "TCP", UDP: "UDP", ICMP6: "IPv6-ICMP"}
 FLAGS = {0x01: "fin", 0x02: "syn", 0x04: "rst", 0x08: "psh", 0x10: "ack", 0x20: "urg", 0x40: "ecn", 0x80: "cwr"}
@@ -51,50 +52,88 @@ def sums(packets, reason):
     }
 
 
+def flag_names(flags):
+    return {name: True for bit, name in FLAGS.items() if flags & bit}
+
+
 def tcp(packets):
     """The object `tcp` of a flow line."""
     there, back = there_and_back(packets)
     flags = union(packets)
-    names = {name: True for bit, name in FLAGS.items() if flags & bit}
-    return names | {
+    return flag_names(flags) | {
         "state": session(packets), "tcp_flags": f"{flags:02x}",
         "tcp_flags_ts": f"{union(there):02x}", "tcp_flags_tc": f"{union(back):02x}",
     }
 
 
-def flow_line(run):
+def client_and_server(first):
+    source, dest, _ = ends(first)
+    return (dest, source) if is_syn_ack(first) else (source, dest)
+
+
+def named(run, seed, source, dest):
+    """What flow lines and netflow lines have in common, for packets from one end to the other."""
     packets, first = run.packets, run.packets[0]
-    client, server, _ = ends(first)
-    if is_syn_ack(first):
-        client, server = server, client
-    flow = sums(packets, run.reason)
     value = {
-        "event_type": "flow", "proto": PROTOCOLS[first.internet.protocol], "community_id": community_id(first),
-        "flow_id": first.number, "pcap_first": first.number, "pcap_last": packets[-1].number,
-        "src_ip": address(client[0]), "dest_ip": address(server[0]),
-        "timestamp": flow["end"], "flow": flow,
+        "proto": PROTOCOLS[first.internet.protocol], "community_id": community_id(first, seed), "flow_id": first.number,
+        "src_ip": address(source[0]), "dest_ip": address(dest[0]),
     }
     if first.icmp:
         value |= {"icmp_type": first.icmp[0], "icmp_code": first.icmp[1]}
     else:
-        value |= {"src_port": client[1], "dest_port": server[1]}
-    if is_tcp(first):
-        value["tcp"] = tcp(packets)
+        value |= {"src_port": source[1], "dest_port": dest[1]}
     if first.vlans:
         value["vlan"] = first.vlans
     verdicts = [verdict(packet) for packet in packets if verdict(packet)]
     if verdicts:
         value["app_proto"] = verdicts[0]
+    return value
+
+
+def flow_line(run, options):
+    packets, first = run.packets, run.packets[0]
+    flow = sums(packets, run.reason)
+    value = named(run, options.seed, *client_and_server(first)) | {
+        "event_type": "flow", "pcap_first": first.number, "pcap_last": packets[-1].number, "timestamp": flow["end"], "flow": flow,
+    }
+    if is_tcp(first):
+        there, back = there_and_back(packets)
+        value |= {"tcp": tcp(packets), "stream": {"toserver": stream(there, options.depth), "toclient": stream(back, options.depth)}}
     return line(value)
+
+
+def netflow_line(run, options, source, dest, packets):
+    """The line of one direction, whose packets these are."""
+    start, end = min(packet.time for packet in packets), max(packet.time for packet in packets)
+    ttls = [packet.internet.ttl for packet in packets]
+    value = named(run, options.seed, source, dest) | {
+        "event_type": "netflow", "timestamp": moment(end),
+        "netflow": {
+            "pkts": len(packets), "bytes": sum(packet.length for packet in packets), "start": moment(start), "end": moment(end),
+            "age": (end - start) // SECOND, "min_ttl": min(ttls), "max_ttl": max(ttls),
+        },
+    }
+    if is_tcp(packets[0]):
+        value["tcp"] = flag_names(union(packets)) | {"tcp_flags": f"{union(packets):02x}"}
+    return line(value)
+
+
+def netflow_lines(run, options):
+    """A line for each direction that has a packet, to the server first."""
+    client, server = client_and_server(run.packets[0])
+    there, back = there_and_back(run.packets)
+    lines = netflow_line(run, options, client, server, there) if there else ""
+    return lines + (netflow_line(run, options, server, client, back) if back else "")
 
 
 def stats_line(capture, counters, runs, clock):
     packets = [packet for run in runs for packet in run.packets]
     reasons = [run.reason for run in runs]
     flow = {"records": len(runs), "packets": len(packets), "bytes": sum(packet.length for packet in packets)}
+    pools = dict.fromkeys(("emergency", "emergency_entered", "forced", "memcap_full", "no_flow", "segment_full"), 0)
     stats = {
         "capture": capture,
         "decoder": {name: counters.count(name) for name in COUNTERS},
-        "flow": flow | {reason: reasons.count(reason) for reason in ("shutdown", "tcp_reuse", "timeout")},
+        "flow": flow | pools | {reason: reasons.count(reason) for reason in ("shutdown", "tcp_reuse", "timeout")},
     }
     return line({"event_type": "stats", "timestamp": moment(clock), "stats": stats})
