@@ -56,8 +56,8 @@ module _ {N F : Type 0} where
   newcomer f roles = record { about = Some (f, roles); roles = blanks 0 roles; seen = []; noted = []; whole = None }
 
   -- the roles from k on still wait for a seat of their own
-  abbrev pub waiting : F → ℕ → ℕ → View N F
-  waiting f roles k = record { about = Some (f, roles); roles = blanks k (roles - k); seen = []; noted = []; whole = None }
+  abbrev pub undealt : F → ℕ → ℕ → View N F
+  undealt f roles k = record { about = Some (f, roles); roles = blanks k (roles - k); seen = []; noted = []; whole = None }
 
   -- a history that the view has seen, or noted
   abbrev pub Heard : View N F → List (Entry N) → Type 0
@@ -78,8 +78,8 @@ module _ {N F : Type 0} where
   abbrev pub idle : View N F → View N F
   idle v = record v { whole = None }
 
-  abbrev pub counted : View N F → List (Entry N) → View N F
-  counted v log = record v { whole = Some log; seen = log; roles = map (recount log) v.roles }
+  abbrev pub entered : View N F → List (Entry N) → View N F
+  entered v log = record v { whole = Some log; seen = log; roles = map (recount log) v.roles }
 
   -- a view that has taken in another one
   abbrev pub joined : View N F → View N F → View N F
@@ -110,14 +110,14 @@ past_of h = reverse h.entries.items
 
 module _ {A N F : Type 0} where
   -- the view once the entries that the seat carries are counted
-  abbrev pub counted_by : View N F → List (ℕ × Option (Home A N)) → View N F
-  counted_by v [] = v
-  counted_by v ((k, None) ∷ more) = v
-  counted_by v ((k, Some h) ∷ more) = counted v (past_of h)
+  abbrev pub entered_by : View N F → List (ℕ × Option (Home A N)) → View N F
+  entered_by v [] = v
+  entered_by v ((k, None) ∷ more) = v
+  entered_by v ((k, Some h) ∷ more) = entered v (past_of h)
 
   -- an entry is counted: what the seat carries is the whole history, and is all seen
   abbrev pub Counts : Step (Option (Home A N)) → Sat A N F → ℕ → Sat A N F → Type 0
-  Counts st m r m' = m' ≡ (counted_by m.0 m.1, m.1)
+  Counts st m r m' = m' ≡ (entered_by m.0 m.1, m.1)
 
   -- the turn is given: the turn is given back with the slot
   abbrev pub Gives : Step (Option (Home A N)) → Sat A N F → ℕ → Sat A N F → Type 0

@@ -1,7 +1,7 @@
 use Rattle.std.proofs.Common.{[], ap, sym, subst, ◌∙◌}
-use Rattle.hist_lock.specs.Rule.{past_of, Sat, HasRole, idle, counted}
+use Rattle.hist_lock.specs.Rule.{past_of, Sat, HasRole, idle, entered}
 use Rattle.hist_lock.specs.declared.view.View.{View}
-use Rattle.hist_lock.proofs.table.HistLock.leave_counted.Goals as goal
+use Rattle.hist_lock.proofs.table.HistLock.leave_entered.Goals as goal
 
 pub count_entry-requires-clause-entry : goal.count_entry-requires-clause-entry
 count_entry-requires-clause-entry g c =
@@ -36,4 +36,4 @@ returns-clause-after g c =
     let M = Sat g.row.M.Denot g.row.M-Note.Denot g.row.M-Fixed.Denot in
     let items = past_of c.args.home in
     let after = c.count_entry.ensures.after c.args.home (ap (λ (m : M). m.1) c.lay.ensures.after) in
-    c.give_turn.ensures.after ∙ ap (λ (v : View g.row.M-Note.Denot g.row.M-Fixed.Denot). (idle v, [])) (ap (λ (m : M). m.0) after ∙ ap (λ (m : M). counted m.0 items) c.lay.ensures.after)
+    c.give_turn.ensures.after ∙ ap (λ (v : View g.row.M-Note.Denot g.row.M-Fixed.Denot). (idle v, [])) (ap (λ (m : M). m.0) after ∙ ap (λ (m : M). entered m.0 items) c.lay.ensures.after)
