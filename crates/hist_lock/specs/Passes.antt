@@ -30,8 +30,7 @@ module _ {A N F : Type 0} where
   made_by seat = made_in seat.me.0.roles
 
 module _ {N C R F : Type 0} (may : F → ℕ → List (Entry N) → C → Type 0) (answers : F → List (Entry N) → ℕ → C → R → N → Type 0) where
-  -- What a call of a role at that step has done, at a lock with so many roles: to the history that its pass had seen and the entries that it had made,
-  -- and to those that it has seen and made now
+  -- What a call of a role at that step has done, at a lock with so many roles. Its pass had seen `seen` and made `made`; now these are `seen'` and `made'`
   pub record IsCall (f : F) (roles role step : ℕ) (call : C) (reply : R) (seen made seen' made' : List (Entry N)) : Type 0 where
     -- the history in which the call took place
     pub before : List (Entry N)

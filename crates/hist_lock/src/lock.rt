@@ -1,9 +1,9 @@
 //! A role's turn: one call on the machine, and one entry.
-ghost use Rattle.std.specs.Prelude.{◌≡◌, ℕ, ◌+◌, ◌<◌, ◌^◌, true, List, [], ◌∷◌, length, All, IfOk, IfErr, Some, None, is_none};
+ghost use Rattle.std.specs.Prelude.{◌≡◌, ℕ, ◌<◌, true, List, [], ◌∷◌, length, All, IfOk, IfErr, Some, None, is_none};
 ghost use Rattle.suri_base.specs.declared.entry.Entry.{Entry};
-ghost use Rattle.suri_base.specs.History.{entry, Follows};
+ghost use Rattle.suri_base.specs.History.{entry};
 ghost use Rattle.hist_lock.specs.declared.view.Home.{Home};
-ghost use Rattle.hist_lock.specs.Rule.{past_of, HasRole, turned, idle, entered, IsTurn};
+ghost use Rattle.hist_lock.specs.Rule.{past_of, HasRole, turned, idle, entered, HasNext, IsTurn};
 ghost use Rattle.hist_lock.specs.Passes.{IsOf, Stays, IsCall};
 ghost use Rattle.hist_lock.specs.Locks.{lock_id, made_with, roles_of, IsPassOf, IsSamePass, role_of, seen_by, made_of};
 
@@ -111,7 +111,7 @@ impl<M: Machine> HistLock<M> {
     // Counts the entry that was added to what the seat carries.
     fn count_entry(&self, seat: &mut LockSeat<M>)
         requires lock { seat.old.table_id ≡ lock_id self.now }
-        requires entry { (h : Home M M.Note) × (log : List (Entry M.Note)) × (e : Entry M.Note) × (made : List (Entry M.Note)) × (seat.old.me.1 ≡ (0, Some h) ∷ []) × (seat.old.me.0.whole ≡ Some log) × (past_of h ≡ e ∷ log) × HasRole seat.old.me.0 e.role made × Follows (M.may (M.fixed (made_with self.now))) (M.answers (M.fixed (made_with self.now))) log e × (length log + 1 < 2 ^ 64) }
+        requires entry { (h : Home M M.Note) × (seat.old.me.1 ≡ (0, Some h) ∷ []) × HasNext M.may M.answers (M.fixed (made_with self.now)) seat.old.me.0 h }
         ensures same { Stays seat.old seat.new }
         ensures after { (h : Home M M.Note) → seat.old.me.1 ≡ (0, Some h) ∷ [] → seat.new.me ≡ (entered seat.old.me.0 (past_of h), (0, Some h) ∷ []) }
     {
@@ -162,7 +162,7 @@ impl<M: Machine> HistLock<M> {
     fn leave_entered(&self, seat: &mut LockSeat<M>, home: Home<M, M::Note>)
         requires lock { seat.old.table_id ≡ lock_id self.now }
         requires slot { seat.old.me.1 ≡ (0, None) ∷ [] }
-        requires entry { (log : List (Entry M.Note)) × (e : Entry M.Note) × (made : List (Entry M.Note)) × (seat.old.me.0.whole ≡ Some log) × (past_of home ≡ e ∷ log) × HasRole seat.old.me.0 e.role made × Follows (M.may (M.fixed (made_with self.now))) (M.answers (M.fixed (made_with self.now))) log e × (length log + 1 < 2 ^ 64) }
+        requires entry { HasNext M.may M.answers (M.fixed (made_with self.now)) seat.old.me.0 home }
         requires home { (M.fixed home.machine ≡ M.fixed (made_with self.now)) × M.stands home.machine (past_of home) }
         ensures same { Stays seat.old seat.new }
         ensures after { seat.new.me ≡ (idle (entered seat.old.me.0 (past_of home)), []) }

@@ -116,9 +116,9 @@ impl Machine for SegmentPool {
 
     ghost may_stays = { λ limit role past e call other legal may. may };
 
-    ghost one_note = { λ limit past role call r s n m legal may. one_note limit past call r s n m };
+    ghost one_note = { λ limit past role call r s n m both. one_note limit past call r s n m both.2 both.3 };
 
-    ghost one_reply = { λ limit past role call r s n m legal may. one_reply limit past call r s n m };
+    ghost one_reply = { λ limit past role call r s n m both. one_reply limit past call r s n m both.2 both.3 };
 
     fn reserve(&mut self, _call: &SegCall) -> Result<(), NoMemory>
         ensures same { self.new ≡ self.old }

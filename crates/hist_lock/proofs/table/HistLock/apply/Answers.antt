@@ -26,21 +26,21 @@ leave_entered-requires-clause-entry g c =
     let made = made_in c.args.pass.now.seat.me.0.roles in
     let items = past_of c.enter-home.result in
     let ok = c.in-Ok.ensures.ok in
-    let has = plain_role c.args.pass.now.seat.me _ _ c.args.pass.now.plain in (
-      items,
-      entry role c.args.step ok.0,
-      made,
-      ap (λ (m : M). m.0.whole) c.enter-home.ensures.after,
-      ok.1,
-      subst (λ (m : M). HasRole m.0 role made) (sym c.enter-home.ensures.after) has,
-      (
+    let has = plain_role c.args.pass.now.seat.me _ _ c.args.pass.now.plain in record {
+      log = items;
+      next = entry role c.args.step ok.0;
+      whole = ap (λ (m : M). m.0.whole) c.enter-home.ensures.after;
+      more = ok.1;
+      made = made;
+      mine = subst (λ (m : M). HasRole m.0 role made) (sym c.enter-home.ensures.after) has;
+      follows = (
         c.args.call,
         c.in-Ok.reply,
         may_now _ _ _ _ _ _ (g.met.M.Machine.may_stays f) _ _ _ _ _ turn has c.requires.may,
         subst (λ (x : g.row.M-Fixed.Denot). g.M.Machine.answers x items role c.args.call c.in-Ok.reply ok.0) turn.rests.0 ok.2,
-      ),
-      omega (arith, ap length ok.1, length-reverse c.turn.new.home.entries.items, c.turn.new.home.entries.ok.0),
-    )
+      );
+      fits = omega (arith, ap length ok.1, length-reverse c.turn.new.home.entries.items, c.turn.new.home.entries.ok.0);
+    }
 
 pub returns-in-Ok-clause-ok : goal.returns-in-Ok-clause-ok
 returns-in-Ok-clause-ok g c =

@@ -9,15 +9,17 @@ count_entry-requires-clause-entry g c =
     let after = c.lay.ensures.after in
     let q = c.requires.entry in (
       c.args.home,
-      q.0,
-      q.1,
-      q.2,
       ap (λ (m : M). m.1) after,
-      ap (λ (m : M). m.0.whole) after ∙ q.3,
-      q.4,
-      subst (λ (m : M). HasRole m.0 q.1.role q.2) (sym after) q.5,
-      q.6,
-      q.7,
+      record {
+        log = q.log;
+        next = q.next;
+        whole = ap (λ (m : M). m.0.whole) after ∙ q.whole;
+        more = q.more;
+        made = q.made;
+        mine = subst (λ (m : M). HasRole m.0 q.next.role q.made) (sym after) q.mine;
+        follows = q.follows;
+        fits = q.fits;
+      },
     )
 
 pub give_turn-requires-clause-turn : goal.give_turn-requires-clause-turn
