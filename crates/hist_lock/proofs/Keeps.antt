@@ -17,7 +17,7 @@ use Rattle.suri_base.proofs.Histories.{begins_itself, begins_more, entries_other
 use Rattle.hist_lock.specs.declared.view.View.{View}
 use Rattle.hist_lock.specs.declared.view.Home.{Home}
 use Rattle.hist_lock.specs.Passes.{IsPlain}
-use Rattle.hist_lock.specs.Rule.{role_in, made_in, past_of, Sat, St, others, HasRole, HasAll, recount, turned, idle, counted, Counts, Gives, LegalIn, Rests, Fits, Kept, IsTurn, Takes}
+use Rattle.hist_lock.specs.Rule.{role_in, made_in, past_of, Sat, St, others, HasRole, HasAll, recount, turned, idle, entered, Counts, Gives, LegalIn, Rests, Fits, Kept, IsTurn, Takes}
 
 module _ {V : Type 0} where
   pub each_set : (K : ℕ → V → Type 0) (vs : List V) (me : ℕ) (w : V) → K me w → ((j : ℕ) (d : V) → j ≢ me → get_elem? vs j ≡ some d → K j d)
@@ -40,8 +40,8 @@ module _ {X : Type 0} where
   pub not_none : (x : X) → ◌≡◌ {A = Option X} (Some x) None → ⊥
   not_none x e = cc
 
-counted_right : (found old new : ℕ) → found ≡ old → new ≡ old + 1 → old + 1 < 2 ^ 64 → (found + 1) % 2 ^ 64 ≡ new
-counted_right found old new is up fits = omega arith
+count_right : (found old new : ℕ) → found ≡ old → new ≡ old + 1 → old + 1 < 2 ^ 64 → (found + 1) % 2 ^ 64 ≡ new
+count_right found old new is up fits = omega arith
 
 module _ {A N C R F : Type 0} (fixed : A → F) (stands : A → List (Entry N) → Type 0) (may : F → ℕ → List (Entry N) → C → Type 0) (answers : F → List (Entry N) → ℕ → C → R → N → Type 0) (f : F) (roles : ℕ) where
   abbrev S : Type 0
@@ -170,13 +170,13 @@ module _ {A N C R F : Type 0} (fixed : A → F) (stands : A → List (Entry N) �
       let same : log ≡ r.log = t.1 in
       let mine = knew.mine e.role made has in
       let new : L = (past_of h) in
-      let w : V = counted v new in
+      let w : V = entered v new in
       let wide = r.wide in
       let before = r.counts in
       let grown : new ≡ e ∷ r.log = is ∙ ap (λ (l : L). e ∷ l) same in
       let longer : length new ≡ length r.log + 1 = ap length grown ∙ sym (add-one (length r.log)) in
       let n : ℕ = (get_or s.words 1 0 + 1) % 2 ^ 64 in
-      let right : n ≡ length new = counted_right (get_or s.words 1 0) (length r.log) (length new) r.counts longer (subst (λ (l : L). length l + 1 < 2 ^ 64) same fits) in
+      let right : n ≡ length new = count_right (get_or s.words 1 0) (length r.log) (length new) r.counts longer (subst (λ (l : L). length l + 1 < 2 ^ 64) same fits) in
       let still : get_or (set s.words 1 n) 0 0 ≡ held s = get_or-set_other s.words 1 0 n 0 (λ e. omega arith) in
       let there : get_or (set s.words 1 n) 1 0 ≡ n = get_or-set_same s.words 1 n 0 (omega arith) in
       let toward : (P : L → Type 0) → P (e ∷ r.log) → P new = λ P p. subst P (sym grown) p in
@@ -278,6 +278,10 @@ module _ {A N C R F : Type 0} (fixed : A → F) (stands : A → List (Entry N) �
       let none = entries_since role b.0 v.seen (sym (ap (entries_of role) b.1) ∙ (m.1 ∙ sym m.2)) in
       subst (λ (l : L). may f role l call) (sym b.1) (may_since (may f) (answers f) stays role call b.0 v.seen (subst (Legal (may f) (answers f)) b.1 turn.legal) none ok)
 
+-- one entry more, of a role of the lock
+pub known_more : {N : Type 0} (roles : ℕ) (e : Entry N) (past new : List (Entry N)) → new ≡ e ∷ past → e.role < roles → All (λ d. d.role < roles) past → All (λ d. d.role < roles) new
+known_more {N} roles e past new is low all = subst (All (λ (d : Entry N). d.role < roles)) (sym is) (All-cons (λ (d : Entry N). d.role < roles) e past low all)
+
 module _ {X : Type 0} where
   pub none_long : (xs : List X) → length xs ≡ 0 → xs ≡ []
   none_long [] e = refl
@@ -302,11 +306,11 @@ module _ {A N F : Type 0} where
   plain_role me role seen plain = (0, one_role me.0.roles plain.1 ∙ (λ i. let pair : ℕ × List (Entry N) = (plain.2 i, made_in me.0.roles) in some pair))
 
   -- it is a pass again when its entry is counted
-  pub plain_again : (me : Sat A N F) (role seen n : ℕ) (log : List (Entry N)) → IsPlain me role seen → n ≡ length log → IsPlain {A = A} (idle (counted me.0 log), []) role n
+  pub plain_again : (me : Sat A N F) (role seen n : ℕ) (log : List (Entry N)) → IsPlain me role seen → n ≡ length log → IsPlain {A = A} (idle (entered me.0 log), []) role n
   plain_again me role seen n log plain is = let all = recounted me.0.roles log plain.1 in
       (refl, ap length all, ap role_in all ∙ plain.2, refl, sym is)
 
-  pub made_again : (me : Sat A N F) (role seen : ℕ) (log : List (Entry N)) → IsPlain me role seen → made_in (counted me.0 log).roles ≡ entries_of role log
+  pub made_again : (me : Sat A N F) (role seen : ℕ) (log : List (Entry N)) → IsPlain me role seen → made_in (entered me.0 log).roles ≡ entries_of role log
   made_again me role seen log plain = ap made_in (recounted me.0.roles log plain.1) ∙ ap (λ (r : ℕ). entries_of r log) plain.2
 
   -- a turn that was given back with nothing counted has left the view

@@ -1,5 +1,5 @@
 -- The steps that make seats and join them keep the rule, and so does the look at the length.
-use Rattle.std.proofs.Common.{◌≡◌, ◌≢◌, ℕ, zero, suc, ◌+◌, ◌-◌, ◌≤◌, ◌<◌, ◌⊎◌, inl, inr, ⊎_elim, true, false, cond, eqb, ltb, List, [], ◌∷◌, ◌++◌, map, reverse, length, get_or, set, Option, Some, None, refl, sym, ap, ◌∙◌, subst, arith, eq-eqb, ne_eqb, length-append, add-one, add-zero, zero-add}
+use Rattle.std.proofs.Common.{◌≡◌, ◌≢◌, ℕ, zero, suc, ◌+◌, ◌-◌, ◌≤◌, ◌<◌, ◌⊎◌, inl, inr, ⊎_elim, Bool, true, false, cond, eqb, ltb, List, [], ◌∷◌, ◌++◌, map, reverse, length, get_or, set, Option, Some, None, refl, sym, ap, ◌∙◌, subst, arith, eq-eqb, ne_eqb, length-append, add-one, add-zero, zero-add}
 use mathlib.Core.List.{map-append, append-nil}
 use Rattle.std.specs.List.{All}
 use Rattle.std.proofs.lemmas.List.Elements.{All-push, All-same, All-nil, All-head, All-tail}
@@ -12,12 +12,12 @@ use Rattle.atomic_table.specs.Table.{step, keeps, Allows, Splits, Joins, opening
 use Rattle.atomic_table.proofs.Lists.{at_set, set_else, at_longer, at_last}
 use Rattle.suri_base.specs.declared.entry.Entry.{Entry}
 use Rattle.suri_base.specs.History.{Begins}
-use Rattle.suri_base.proofs.Histories.{begins_both, entries_between, legal_beginning}
+use Rattle.suri_base.proofs.Histories.{begins_both, begins_whole, entries_between, legal_beginning}
 use Rattle.hist_lock.specs.declared.view.View.{View}
 use Rattle.hist_lock.specs.declared.view.Home.{Home}
 use Rattle.hist_lock.specs.Passes.{IsPlain}
 use Rattle.hist_lock.specs.Locks.{numbers}
-use Rattle.hist_lock.specs.Rule.{past_of, Heard, Sat, St, blanks, longer, firsts, others, newcomer, waiting, Has, HasRole, part, joined, spent, witness, first_role, other_roles, LegalIn, Fits, Kept, IsTurn, Checks}
+use Rattle.hist_lock.specs.Rule.{past_of, Heard, Sat, St, blanks, longer, firsts, others, newcomer, undealt, Has, HasRole, part, joined, spent, witness, first_role, other_roles, LegalIn, Fits, Kept, IsTurn, Checks}
 use Rattle.hist_lock.proofs.Keeps.{set_there, one_value, some_is, not_none, unmoved}
 
 module _ {V : Type 0} where
@@ -50,7 +50,7 @@ module _ {N : Type 0} where
   has_either (x ∷ xs) ys role made (zero, e) = inl (0, e)
   has_either (x ∷ xs) ys role made (suc k, e) = ⊎_elim (λ (t : Has xs role made). inl (suc t.0, t.1)) inr (has_either xs ys role made (k, e))
 
-  longer_is : (P : List (Entry N) → Type 0) (xs ys : List (Entry N)) → P xs → P ys → P (longer xs ys)
+  pub longer_is : (P : List (Entry N) → Type 0) (xs ys : List (Entry N)) → P xs → P ys → P (longer xs ys)
   longer_is P xs ys p q = elim (ltb (length xs) (length ys)) as (λ b. P (cond b ys xs)) [ true ↦ q | false ↦ p ]
 
   pub longer_first : (xs ys : List (Entry N)) → length xs ≤ length (longer xs ys)
@@ -58,6 +58,14 @@ module _ {N : Type 0} where
 
   pub longer_second : (xs ys : List (Entry N)) → length ys ≤ length (longer xs ys)
   longer_second xs ys = grind (arith, nat_tests)
+
+  -- of two histories of which the first begins the second, the second is the longer one
+  pub longer_begun : (xs ys : List (Entry N)) → Begins xs ys → longer xs ys ≡ ys
+  longer_begun xs ys b = either (ltb (length xs) (length ys)) (λ same. begins_whole xs ys b (grind (arith, nat_tests, same)))
+    where
+      either : (t : Bool) → (t ≡ false → xs ≡ ys) → cond t ys xs ≡ ys
+      either true whole = refl
+      either false whole = whole refl
 
   blank_at : (from n k role : ℕ) (made : List (Entry N)) → get_elem? (blanks from n) k ≡ some (role, made) → (made ≡ []) × (role ≡ from + k) × (k < n)
   blank_at from zero k role made e = absurd (some-ne-none (role, made) (sym e))
@@ -327,25 +335,25 @@ module _ {A N C R F : Type 0} (fixed : A → F) (stands : A → List (Entry N) �
     ),
   )
 
-  pub splits_waiting : (id : ℕ) (me : M) (k : ℕ) → k < roles → me ≡ (waiting f roles k, []) → Splits Rule id me.0 (other_roles me.0) (first_role me.0)
-  splits_waiting id me k below is = subst (λ (m : M). Splits Rule id m.0 (other_roles m.0) (first_role m.0)) (sym is)
-      (splits_first id (waiting f roles k) k [] (blanks (suc k) (roles - suc k)) refl (ap (blanks k) (gap roles k below)) (λ made h. let t = blank_at (suc k) (roles - suc k) h.0 k made h.1 in let e = t.1 in omega arith))
+  pub splits_undealt : (id : ℕ) (me : M) (k : ℕ) → k < roles → me ≡ (undealt f roles k, []) → Splits Rule id me.0 (other_roles me.0) (first_role me.0)
+  splits_undealt id me k below is = subst (λ (m : M). Splits Rule id m.0 (other_roles m.0) (first_role m.0)) (sym is)
+      (splits_first id (undealt f roles k) k [] (blanks (suc k) (roles - suc k)) refl (ap (blanks k) (gap roles k below)) (λ made h. let t = blank_at (suc k) (roles - suc k) h.0 k made h.1 in let e = t.1 in omega arith))
 
 module _ {N F : Type 0} where
-  pub waiting_next : (f : F) (roles k : ℕ) → k < roles → other_roles (waiting {N = N} f roles k) ≡ waiting f roles (k + 1)
-  waiting_next f roles k below = λ i. record { about = Some (f, roles); roles = (ap (λ (n : ℕ). others (blanks k n)) (gap roles k below) ∙ ap (λ (j : ℕ). blanks j (roles - j)) (sym (add-one k))) i; seen = []; noted = []; whole = None }
+  pub undealt_next : (f : F) (roles k : ℕ) → k < roles → other_roles (undealt {N = N} f roles k) ≡ undealt f roles (k + 1)
+  undealt_next f roles k below = λ i. record { about = Some (f, roles); roles = (ap (λ (n : ℕ). others (blanks k n)) (gap roles k below) ∙ ap (λ (j : ℕ). blanks j (roles - j)) (sym (add-one k))) i; seen = []; noted = []; whole = None }
 
-  pub waiting_first : (f : F) (roles k : ℕ) → k < roles → first_role (waiting {N = N} f roles k) ≡ part (waiting f roles k) ((k, []) ∷ [])
-  waiting_first f roles k below = ap (λ (n : ℕ). part (waiting {N = N} f roles k) (firsts (blanks k n))) (gap roles k below)
+  pub undealt_first : (f : F) (roles k : ℕ) → k < roles → first_role (undealt {N = N} f roles k) ≡ part (undealt f roles k) ((k, []) ∷ [])
+  undealt_first f roles k below = ap (λ (n : ℕ). part (undealt {N = N} f roles k) (firsts (blanks k n))) (gap roles k below)
 
-  pub waiting_last : (f : F) (roles k : ℕ) → k + 1 ≡ roles → (waiting {N = N} f roles k).roles ≡ (k, []) ∷ []
-  waiting_last f roles k is = ap (blanks k) (rest_is roles k is)
+  pub undealt_last : (f : F) (roles k : ℕ) → k + 1 ≡ roles → (undealt {N = N} f roles k).roles ≡ (k, []) ∷ []
+  undealt_last f roles k is = ap (blanks k) (rest_is roles k is)
     where
       rest_is : (n k : ℕ) → k + 1 ≡ n → n - k ≡ 1
       rest_is n k e = omega arith
 
 module _ {A N F : Type 0} where
-  pub fresh_plain : (me : Sat A N F) (f : F) (roles k : ℕ) → me ≡ (part (waiting f roles k) ((k, []) ∷ []), []) → IsPlain me k 0
+  pub fresh_plain : (me : Sat A N F) (f : F) (roles k : ℕ) → me ≡ (part (undealt f roles k) ((k, []) ∷ []), []) → IsPlain me k 0
   fresh_plain me f roles k is = subst (λ (m : Sat A N F). IsPlain m k 0) (sym is) (refl, refl, refl, refl, refl)
 
 module _ {N F : Type 0} where

@@ -1,5 +1,5 @@
 -- What a contract says of a lock and of its passes.
-use Rattle.std.specs.Prelude.{◌≡◌, ℕ, true, List, ◌∷◌, length, Option, Some, is_none}
+use Rattle.std.specs.Prelude.{◌≡◌, ◌<◌, ℕ, true, List, [], ◌∷◌, length, All, Option, Some, is_none}
 use Rattle.atomic_table.specs.Seated.{TableId}
 use Rattle.atomic_table.specs.declared.shared.Seat.{Seat}
 use Rattle.suri_base.specs.declared.entry.Entry.{Entry}
@@ -30,14 +30,27 @@ module _ {A N F : Type 0} where
   made_by seat = made_in seat.me.0.roles
 
 module _ {N C R F : Type 0} (may : F → ℕ → List (Entry N) → C → Type 0) (answers : F → List (Entry N) → ℕ → C → R → N → Type 0) where
-  -- What a call at that step has done. The history after it begins with all that was seen before and ends with the call's entry, it is legal,
-  -- and the reply is the machine's at that point. Of the caller's role it has the entries that the caller made, of which this is one more
-  pub record IsCall (f : F) (role step : ℕ) (call : C) (reply : R) (seen made seen' made' : List (Entry N)) : Type 0 where
+  -- What a call of a role at that step has done, at a lock with so many roles. Its pass had seen `seen` and made `made`; now these are `seen'` and `made'`
+  pub record IsCall (f : F) (roles role step : ℕ) (call : C) (reply : R) (seen made seen' made' : List (Entry N)) : Type 0 where
+    -- the history in which the call took place
     pub before : List (Entry N)
+    -- what the machine noted
     pub note : N
+    -- that history begins with all that had been seen
     pub begins : Begins seen before
+    -- what had been seen has of the role just the entries that it had made
+    pub was : entries_of role seen ≡ made
+    -- what came since is of other roles
+    pub between : entries_of role begins.0 ≡ []
+    -- the history seen now ends with the call's entry
     pub ends : seen' ≡ entry role step note ∷ before
+    -- it is legal
     pub legal : Legal (may f) (answers f) seen'
+    -- each entry in it is of one of the lock's roles
+    pub known : All (λ e. e.role < roles) seen'
+    -- the reply and the note are the machine's after that history
     pub answer : answers f before role call reply note
+    -- the role made one more entry
     pub one_more : made' ≡ entry role step note ∷ made
+    -- what is seen now has of the role just the entries that it made
     pub own : entries_of role seen' ≡ made'

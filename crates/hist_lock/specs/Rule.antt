@@ -1,12 +1,12 @@
 -- The rule on the two words and the slot of a lock, and what each step tells. Histories stand with the newest entry first.
 -- Word 0 is `held`: 1 while a role has the turn. Word 1 is `count`: the length of the history.
-use Rattle.std.specs.Prelude.{◌≡◌, ◌≢◌, ℕ, zero, suc, ◌-◌, ◌⊎◌, ◌<◌, ◌≤◌, nat_lt, if◌then◌else◌, List, [], ◌∷◌, ◌++◌, map, reverse, length, Option, Some, None, slice_index}
+use Rattle.std.specs.Prelude.{◌≡◌, ◌≢◌, ℕ, zero, suc, ◌+◌, ◌-◌, ◌^◌, ◌⊎◌, ◌<◌, ◌≤◌, nat_lt, if◌then◌else◌, List, [], ◌∷◌, ◌++◌, map, reverse, length, Option, Some, None, slice_index}
 use Rattle.std.specs.List.{All}
 use mathlib.Core.Option.{some, none}
 use lib.ListN.{get_elem?}
 use Rattle.atomic_table.specs.Table.{State, Me, Step, rest}
 use Rattle.suri_base.specs.declared.entry.Entry.{Entry}
-use Rattle.suri_base.specs.History.{entries_of, Begins, Legal}
+use Rattle.suri_base.specs.History.{entries_of, Begins, Follows, Legal}
 use Rattle.hist_lock.specs.declared.view.View.{View}
 use Rattle.hist_lock.specs.declared.view.Home.{Home}
 
@@ -55,9 +55,9 @@ module _ {N F : Type 0} where
   abbrev pub newcomer : F → ℕ → View N F
   newcomer f roles = record { about = Some (f, roles); roles = blanks 0 roles; seen = []; noted = []; whole = None }
 
-  -- the roles from k on still wait for a seat of their own
-  abbrev pub waiting : F → ℕ → ℕ → View N F
-  waiting f roles k = record { about = Some (f, roles); roles = blanks k (roles - k); seen = []; noted = []; whole = None }
+  -- the roles from k on are not yet dealt out: they have no seat of their own
+  abbrev pub undealt : F → ℕ → ℕ → View N F
+  undealt f roles k = record { about = Some (f, roles); roles = blanks k (roles - k); seen = []; noted = []; whole = None }
 
   -- a history that the view has seen, or noted
   abbrev pub Heard : View N F → List (Entry N) → Type 0
@@ -78,8 +78,8 @@ module _ {N F : Type 0} where
   abbrev pub idle : View N F → View N F
   idle v = record v { whole = None }
 
-  abbrev pub counted : View N F → List (Entry N) → View N F
-  counted v log = record v { whole = Some log; seen = log; roles = map (recount log) v.roles }
+  abbrev pub entered : View N F → List (Entry N) → View N F
+  entered v log = record v { whole = Some log; seen = log; roles = map (recount log) v.roles }
 
   -- a view that has taken in another one
   abbrev pub joined : View N F → View N F → View N F
@@ -109,19 +109,35 @@ abbrev pub past_of : {A N : Type 0} → Home A N → List (Entry N)
 past_of h = reverse h.entries.items
 
 module _ {A N F : Type 0} where
-  -- the view once the entries that the seat carries are counted
-  abbrev pub counted_by : View N F → List (ℕ × Option (Home A N)) → View N F
-  counted_by v [] = v
-  counted_by v ((k, None) ∷ more) = v
-  counted_by v ((k, Some h) ∷ more) = counted v (past_of h)
+  -- the view once the entry that the seat carries is in the history
+  abbrev pub entered_by : View N F → List (ℕ × Option (Home A N)) → View N F
+  entered_by v [] = v
+  entered_by v ((k, None) ∷ more) = v
+  entered_by v ((k, Some h) ∷ more) = entered v (past_of h)
 
   -- an entry is counted: what the seat carries is the whole history, and is all seen
   abbrev pub Counts : Step (Option (Home A N)) → Sat A N F → ℕ → Sat A N F → Type 0
-  Counts st m r m' = m' ≡ (counted_by m.0 m.1, m.1)
+  Counts st m r m' = m' ≡ (entered_by m.0 m.1, m.1)
 
   -- the turn is given: the turn is given back with the slot
   abbrev pub Gives : Step (Option (Home A N)) → Sat A N F → ℕ → Sat A N F → Type 0
   Gives st m r m' = m' ≡ (idle m.0, rest m.1)
+
+module _ {A N C R F : Type 0} (may : F → ℕ → List (Entry N) → C → Type 0) (answers : F → List (Entry N) → ℕ → C → R → N → Type 0) where
+  -- what was in the slot has one entry more than the whole history that the view knows
+  pub record HasNext (f : F) (v : View N F) (h : Home A N) : Type 0 where
+    -- the whole history, and the entry that is new
+    pub log : List (Entry N)
+    pub next : Entry N
+    pub whole : v.whole ≡ Some log
+    pub more : past_of h ≡ next ∷ log
+    -- the entry is of a role of the view, which made these before
+    pub made : List (Entry N)
+    pub mine : HasRole v next.role made
+    -- a machine of one thread may make it there
+    pub follows : Follows (may f) (answers f) log next
+    -- the new length is a word's
+    pub fits : length log + 1 < 2 ^ 64
 
 module _ {A N C R F : Type 0} (fixed : A → F) (stands : A → List (Entry N) → Type 0) (may : F → ℕ → List (Entry N) → C → Type 0) (answers : F → List (Entry N) → ℕ → C → R → N → Type 0) where
   abbrev pub LegalIn : F → List (Entry N) → Type 0

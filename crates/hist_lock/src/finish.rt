@@ -45,7 +45,6 @@ impl<M: Machine + Drop> HistLock<M> {
     ///
     /// What the contract says of the history speaks of the entries with the newest first: that is what `reverse` is for.
     pub fn finish(self, passes: Vec<Pass<M>>) -> (M, Vec<Entry<M::Note>>)
-        requires some { 0 < roles_of self }
         requires roles { map (λ p. role_of p) passes.items ≡ numbers 0 (roles_of self) }
         requires passes { All (λ p. IsPassOf M.fixed self p) passes.items }
         ensures fixed { M.fixed result.0 ≡ M.fixed (made_with self) }

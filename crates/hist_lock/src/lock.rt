@@ -1,9 +1,9 @@
 //! A role's turn: one call on the machine, and one entry.
-ghost use Rattle.std.specs.Prelude.{◌≡◌, ℕ, ◌+◌, ◌<◌, ◌^◌, true, List, [], ◌∷◌, length, All, IfOk, IfErr, Some, None, is_none};
+ghost use Rattle.std.specs.Prelude.{◌≡◌, ℕ, ◌<◌, true, List, [], ◌∷◌, length, All, IfOk, IfErr, Some, None, is_none};
 ghost use Rattle.suri_base.specs.declared.entry.Entry.{Entry};
-ghost use Rattle.suri_base.specs.History.{entry, Follows};
+ghost use Rattle.suri_base.specs.History.{entry};
 ghost use Rattle.hist_lock.specs.declared.view.Home.{Home};
-ghost use Rattle.hist_lock.specs.Rule.{past_of, HasRole, turned, idle, counted, IsTurn};
+ghost use Rattle.hist_lock.specs.Rule.{past_of, HasRole, turned, idle, entered, HasNext, IsTurn};
 ghost use Rattle.hist_lock.specs.Passes.{IsOf, Stays, IsCall};
 ghost use Rattle.hist_lock.specs.Locks.{lock_id, made_with, roles_of, IsPassOf, IsSamePass, role_of, seen_by, made_of};
 
@@ -65,15 +65,20 @@ impl<M: Machine> HistLock<M> {
         ensures turn { (h : Home M M.Note) × (seat.new.me ≡ (turned seat.old.me.0 (past_of h), (0, Some h) ∷ [])) × IsTurn M.fixed M.stands M.may M.answers (M.fixed (made_with self.now), (roles_of self.now)) seat.old.me.0 h }
     {
         let shared = &self.table.shared;
+        let mut sleeps = false;
         for _ in rt.forever() {
+            // Who may sleep says so before it asks again: so the one that gives the turn back then sees it. Who was
+            // woken says so too, since others may sleep still.
+            if sleeps {
+                self.asleep.store(1, Ordering::SeqCst);
+            }
             if shared.compare_exchange::<Take<M>>(seat, HELD, 0, 1) == 0 {
                 return;
             }
-            // Who waits says so before it looks at the word again, and who gives the turn back looks for it
-            // after that word was set: so one that sleeps is seen.
-            self.waiting.fetch_add(1, Ordering::SeqCst);
-            shared.park(rt, HELD, 1);
-            self.waiting.fetch_sub(1, Ordering::SeqCst);
+            if sleeps {
+                self.asleep.park(rt, 1);
+            }
+            sleeps = true;
         }
         unreachable!()
     }
@@ -106,9 +111,9 @@ impl<M: Machine> HistLock<M> {
     // Counts the entry that was added to what the seat carries.
     fn count_entry(&self, seat: &mut LockSeat<M>)
         requires lock { seat.old.table_id ≡ lock_id self.now }
-        requires entry { (h : Home M M.Note) × (log : List (Entry M.Note)) × (e : Entry M.Note) × (made : List (Entry M.Note)) × (seat.old.me.1 ≡ (0, Some h) ∷ []) × (seat.old.me.0.whole ≡ Some log) × (past_of h ≡ e ∷ log) × HasRole seat.old.me.0 e.role made × Follows (M.may (M.fixed (made_with self.now))) (M.answers (M.fixed (made_with self.now))) log e × (length log + 1 < 2 ^ 64) }
+        requires entry { (h : Home M M.Note) × (seat.old.me.1 ≡ (0, Some h) ∷ []) × HasNext M.may M.answers (M.fixed (made_with self.now)) seat.old.me.0 h }
         ensures same { Stays seat.old seat.new }
-        ensures after { (h : Home M M.Note) → seat.old.me.1 ≡ (0, Some h) ∷ [] → seat.new.me ≡ (counted seat.old.me.0 (past_of h), (0, Some h) ∷ []) }
+        ensures after { (h : Home M M.Note) → seat.old.me.1 ≡ (0, Some h) ∷ [] → seat.new.me ≡ (entered seat.old.me.0 (past_of h), (0, Some h) ∷ []) }
     {
         self.table.shared.fetch_add::<Count>(seat, COUNT, 1);
     }
@@ -121,8 +126,9 @@ impl<M: Machine> HistLock<M> {
         ensures after { seat.new.me ≡ (idle seat.old.me.0, []) }
     {
         self.table.shared.swap::<Give>(seat, HELD, 0);
-        if self.waiting.load(Ordering::SeqCst) > 0 {
-            self.table.shared.wake_one(HELD);
+        // One is woken at a time: until it asks again, turns are given back without a call to the kernel.
+        if self.asleep.load(Ordering::SeqCst) == 1 && self.asleep.swap(0, Ordering::SeqCst) == 1 {
+            self.asleep.wake_one();
         }
     }
 
@@ -153,13 +159,13 @@ impl<M: Machine> HistLock<M> {
 
     // Lays back what was taken out, with an entry more, counts the entry, and gives the turn back. The machine is laid back
     // first: which entry is counted is read off what the seat carries. No other thread sees the slot before the turn is given.
-    fn leave_counted(&self, seat: &mut LockSeat<M>, home: Home<M, M::Note>)
+    fn leave_entered(&self, seat: &mut LockSeat<M>, home: Home<M, M::Note>)
         requires lock { seat.old.table_id ≡ lock_id self.now }
         requires slot { seat.old.me.1 ≡ (0, None) ∷ [] }
-        requires entry { (log : List (Entry M.Note)) × (e : Entry M.Note) × (made : List (Entry M.Note)) × (seat.old.me.0.whole ≡ Some log) × (past_of home ≡ e ∷ log) × HasRole seat.old.me.0 e.role made × Follows (M.may (M.fixed (made_with self.now))) (M.answers (M.fixed (made_with self.now))) log e × (length log + 1 < 2 ^ 64) }
+        requires entry { HasNext M.may M.answers (M.fixed (made_with self.now)) seat.old.me.0 home }
         requires home { (M.fixed home.machine ≡ M.fixed (made_with self.now)) × M.stands home.machine (past_of home) }
         ensures same { Stays seat.old seat.new }
-        ensures after { seat.new.me ≡ (idle (counted seat.old.me.0 (past_of home)), []) }
+        ensures after { seat.new.me ≡ (idle (entered seat.old.me.0 (past_of home)), []) }
     {
         self.lay(seat, home);
         self.count_entry(seat);
@@ -181,14 +187,14 @@ impl<M: Machine> HistLock<M> {
         requires step { All (λ e. e.step < step) (made_of pass.old) }
         ensures lock { IsPassOf M.fixed self.now pass.new }
         ensures same { role_of pass.new ≡ role_of pass.old }
-        ensures ok { IfOk result (λ reply. IsCall M.may M.answers (M.fixed (made_with self.now)) (role_of pass.old) step call reply (seen_by pass.old) (made_of pass.old) (seen_by pass.new) (made_of pass.new)) }
+        ensures ok { IfOk result (λ reply. IsCall M.may M.answers (M.fixed (made_with self.now)) (roles_of self.now) (role_of pass.old) step call reply (seen_by pass.old) (made_of pass.old) (seen_by pass.new) (made_of pass.new)) }
         ensures refused { IfErr result (λ r. (r.call ≡ call) × IsSamePass pass.old pass.new) }
     {
         let mut home = self.enter(rt, &mut pass.seat);
         match turn(&mut home, pass.role, step, call) {
             Ok(reply) => {
                 let seen = home.entries.len() as u64;
-                self.leave_counted(&mut pass.seat, home);
+                self.leave_entered(&mut pass.seat, home);
                 pass.seen = seen;
                 Ok(reply)
             }

@@ -1,6 +1,6 @@
 //! A new lock.
 ghost use Rattle.std.specs.Prelude.{◌≡◌, ◌<◌, ◌+◌, ◌≤◌, [], All, map, length, IfOk, vec_len, vec_capacity};
-ghost use Rattle.hist_lock.specs.Rule.{waiting};
+ghost use Rattle.hist_lock.specs.Rule.{undealt};
 ghost use Rattle.hist_lock.specs.Locks.{lock_id, made_with, roles_of, numbers, role_of, IsPassOf, IsNewPass};
 
 use crate::law::Deal;
@@ -18,7 +18,7 @@ impl<M: Machine> HistLock<M> {
     // Gives each role a pass of its own.
     fn deal(&self, mut seat: LockSeat<M>, roles: u32, mut passes: Vec<Pass<M>>) -> Vec<Pass<M>>
         requires roles { (0 < roles) × (roles ≡ roles_of self.now) }
-        requires seat { (seat.table_id ≡ lock_id self.now) × (seat.me ≡ (waiting (M.fixed (made_with self.now)) roles 0, [])) }
+        requires seat { (seat.table_id ≡ lock_id self.now) × (seat.me ≡ (undealt (M.fixed (made_with self.now)) roles 0, [])) }
         requires room { (passes.items ≡ []) × (roles ≤ vec_capacity passes) }
         ensures roles { map (λ p. role_of p) result.items ≡ numbers 0 roles }
         ensures passes { All (λ p. IsNewPass M.fixed self.now p) result.items }
@@ -71,7 +71,7 @@ impl<M: Machine + Drop> HistLock<M> {
         };
         let lock = HistLock {
             table,
-            waiting: AtomicU64::new(0),
+            asleep: AtomicU64::new(0),
         };
         let passes = lock.deal(seat, roles, passes);
         Ok((lock, passes))

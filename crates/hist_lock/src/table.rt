@@ -1,5 +1,5 @@
 //! The lock's table.
-ghost use Rattle.std.specs.Prelude.{◌≡◌};
+ghost use Rattle.std.specs.Prelude.{◌≡◌, ◌<◌};
 
 use crate::law::Law;
 use crate::view::{About, Home, View};
@@ -18,10 +18,10 @@ pub struct HistLock<M: Machine> {
         Law<M>,
         Global,
     >,
-    // How many threads wait for the turn, or are about to: who gives it back wakes one only where there
-    // is one. No promise rests on it.
-    pub(crate) waiting: AtomicU64,
+    // 1 while a role may sleep that nobody has woken yet, and else 0. No promise rests on it.
+    pub(crate) asleep: AtomicU64,
     ghost sized: { (table.shared.table_id.words ≡ 2) × (table.shared.table_id.slots ≡ 1) },
+    ghost peopled: { 0 < table.shared.key.roles },
 }
 
 /// No memory was left for the entry or for the call. The call comes back.

@@ -9,4 +9,4 @@ mod tests;
 
 pub use calls::{call_once, two_calls};
 pub use nodes::{give, take};
-pub use race::in_two_threads;
+pub use race::{finish_two, in_two_threads};

@@ -32,6 +32,13 @@ Answered limit out (call.Take frame) (reply.Full m l) said = (out ≡ limit) × 
 Answered limit out (call.Give nodes) reply.Gave said = said ≡ note.Gave (length nodes)
 Answered limit out c r said = ⊥
 
+-- two replies are the same but for what is in a node
+abbrev pub AreAlike : SegReply → SegReply → Type 0
+AreAlike (reply.Node n) (reply.Node m) = Unit {0}
+AreAlike (reply.Full m l) (reply.Full n k) = (m ≡ n) × (l ≡ k)
+AreAlike reply.Gave reply.Gave = Unit {0}
+AreAlike r s = ⊥
+
 -- a note as it must be where so many nodes are out: a node is taken exactly where fewer than the limit are out
 abbrev pub StandsAt : ℕ → ℕ → SegNote → Type 0
 StandsAt limit out (note.Took frame) = out < limit

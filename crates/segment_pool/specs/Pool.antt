@@ -2,7 +2,9 @@
 use Rattle.std.specs.Prelude.{◌≡◌, ℕ, ◌+◌, List}
 use Rattle.suri_base.specs.declared.entry.Entry.{Entry}
 use Rattle.suri_base.specs.declared.entry.SegNote.{SegNote}
-use Rattle.segment_pool.specs.Counting.{out_of}
+use Rattle.segment_pool.specs.declared.calls.SegCall.{SegCall}
+use Rattle.segment_pool.specs.declared.calls.SegReply.{SegReply}
+use Rattle.segment_pool.specs.Counting.{out_of, Answered, MayCall}
 use Rattle.segment_pool.specs.declared.pool.SegmentPool.{SegmentPool}
 
 -- how many nodes there are, out and at home: the pool's fixed part
@@ -17,6 +19,14 @@ spare_of pool = pool.spare
 abbrev pub CountsFor : SegmentPool → List (Entry SegNote) → Type 0
 CountsFor pool past = out_of past + spare_of pool ≡ limit_of pool
 
--- the pool's nodes are counted by some history
-abbrev pub IsCounted : SegmentPool → Type 0
-IsCounted pool = (past : List (Entry SegNote)) × CountsFor pool past
+-- some history tells how many of the pool's nodes are out
+abbrev pub HasPast : SegmentPool → Type 0
+HasPast pool = (past : List (Entry SegNote)) × CountsFor pool past
+
+-- each role may make a call at any time, where its nodes can be noted
+abbrev pub PoolMay : ℕ → ℕ → List (Entry SegNote) → SegCall → Type 0
+PoolMay limit role past call = MayCall call
+
+-- what a call is answered hangs on how many nodes are out, whoever calls
+abbrev pub PoolAnswers : ℕ → List (Entry SegNote) → ℕ → SegCall → SegReply → SegNote → Type 0
+PoolAnswers limit past role call reply note = Answered limit (out_of past) call reply note

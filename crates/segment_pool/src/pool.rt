@@ -98,8 +98,9 @@ impl Machine for SegmentPool {
 
     type Fixed = u32;
 
-    ghost use Rattle.segment_pool.specs.Pool.{limit_of, CountsFor};
-    ghost use Rattle.segment_pool.specs.Counting.{out_of, Answered, MayCall};
+    ghost use Rattle.segment_pool.specs.Pool.{limit_of, CountsFor, PoolMay, PoolAnswers};
+    ghost use Rattle.segment_pool.specs.Counting.{AreAlike};
+    ghost use Rattle.segment_pool.specs.Fixed.{one_note, one_reply};
 
     ghost fixed = { limit_of };
 
@@ -107,11 +108,17 @@ impl Machine for SegmentPool {
 
     ghost room = { λ pool call. Unit {0} };
 
-    ghost may = { λ limit role past call. MayCall call };
+    ghost may = { PoolMay };
 
-    ghost answers = { λ limit past role call reply note. Answered limit (out_of past) call reply note };
+    ghost answers = { PoolAnswers };
+
+    ghost alike = { AreAlike };
 
     ghost may_stays = { λ limit role past e call other legal may. may };
+
+    ghost one_note = { λ limit past role call r s n m both. one_note limit past call r s n m both.2 both.3 };
+
+    ghost one_reply = { λ limit past role call r s n m both. one_reply limit past call r s n m both.2 both.3 };
 
     fn reserve(&mut self, _call: &SegCall) -> Result<(), NoMemory>
         ensures same { self.new ≡ self.old }

@@ -1,6 +1,6 @@
 ghost use Rattle.std.specs.Prelude.{◌≡◌, ℕ};
 ghost use Rattle.segment_pool.specs.Counting.{Answered, MayCall};
-ghost use Rattle.segment_pool.specs.Pool.{limit_of, IsCounted};
+ghost use Rattle.segment_pool.specs.Pool.{limit_of, HasPast};
 
 use crate::{SegCall, SegReply, SegmentPool};
 use std::test::Fail;
@@ -8,9 +8,9 @@ use suri_base::{Machine, SegNote, Segments};
 
 // Room is made for the call, and the pool answers it.
 fn ask(pool: &mut SegmentPool, call: SegCall) -> (SegReply, SegNote)
-    requires counted { IsCounted pool.old }
+    requires past { HasPast pool.old }
     requires may { MayCall call }
-    ensures counted { IsCounted pool.new }
+    ensures past { HasPast pool.new }
     ensures answer { (out : ℕ) × Answered (limit_of pool.old) out call result.0 result.1 }
 {
     let Ok(()) = pool.reserve(&call) else {
