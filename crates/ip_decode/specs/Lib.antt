@@ -1,3 +1,2 @@
 pub mod Extensions
-pub mod Fields
 pub mod Ip

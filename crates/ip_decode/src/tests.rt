@@ -168,7 +168,7 @@ fn reads_fragment_and_authentication(rt: HostRuntime) -> Result<(), Fail> {
         (44, &[17, 0, 0, 0], Ok((17, 48, 8, 8))),
         (44, &[17, 255, 0, 0], Ok((17, 48, 8, 8))),
         (44, &[17, 0, 0, 6], Ok((17, 48, 8, 8))),
-        // More pieces follow, or some stand before.
+        // More fragments follow, or some stand before.
         (44, &[17, 0, 0, 1], Err(Counter::Fragment)),
         (44, &[17, 0, 0, 8], Err(Counter::Fragment)),
         (44, &[17, 0, 0xff, 0xf8], Err(Counter::Fragment)),
@@ -208,14 +208,14 @@ fn with_extensions(
 fn counts_extension_headers(rt: HostRuntime) -> Result<(), Fail> {
     let alloc = rt.alloc();
     let whole: [u8; 8] = [17, 0, 0, 0, 0, 0, 0, 0];
-    let piece: [u8; 8] = [17, 0, 0, 1, 0, 0, 0, 0];
+    let fragment: [u8; 8] = [17, 0, 0, 1, 0, 0, 0, 0];
     let table: [(u8, u8, &[u8], Result<Payload, Counter>); 6] = [
         (16, 17, &[], Ok((17, 168, 8, 8))),
         (17, 17, &[], Err(Counter::IpExtensions)),
         (15, 44, &whole, Ok((17, 168, 8, 8))),
-        (15, 44, &piece, Err(Counter::Fragment)),
+        (15, 44, &fragment, Err(Counter::Fragment)),
         (16, 44, &whole, Err(Counter::IpExtensions)),
-        (16, 44, &piece, Err(Counter::IpExtensions)),
+        (16, 44, &fragment, Err(Counter::IpExtensions)),
     ];
     for (count, last, header, want) in &table {
         let packet = with_extensions(alloc, *count, *last, header)?;

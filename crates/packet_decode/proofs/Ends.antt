@@ -5,7 +5,7 @@ use Rattle.std.proofs.lemmas.Bool.Decides.{nat_tests}
 use Rattle.std.proofs.lemmas.List.{drop-drop}
 use Rattle.suri_base.specs.declared.counter.Counter.{Counter}
 use Rattle.suri_base.specs.declared.counter.Counter.TheVariants.{Ethertype, IpSmall, IpVersion, LinkSmall}
-use Rattle.ip_decode.specs.Fields.{number_at}
+use Rattle.header_fields.specs.Fields.{number_at}
 use Rattle.packet_decode.specs.Frame.{carried_by, headed_packet_of, raw_packet_of}
 use Rattle.packet_decode.specs.Tags.{Carried, behind_type, inside, is_tag, packet_of}
 use Rattle.packet_decode.proofs.SoFar.{behind_type-cut, behind_type-deep, behind_type-packet, behind_type-tag}

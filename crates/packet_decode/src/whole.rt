@@ -1,9 +1,8 @@
 //! Whole frames, from the link header to the transport header.
 ghost use Rattle.std.specs.Prelude.{◌≡◌, ◌+◌, ◌^◌, ◌<◌, ◌≤◌, ◌⊎◌, ◌↔◌, ◌||◌, IfOk, IsSome, IsTrue, length};
-ghost use Rattle.l4_decode.specs.Transport.{has_ports};
 ghost use Rattle.packet_decode.specs.Layers.{view_of};
 ghost use Rattle.packet_decode.specs.Tags.{AreTags};
-ghost use Rattle.suri_base.specs.Protocols.{is_icmp};
+ghost use Rattle.suri_base.specs.Protocols.{has_ports, is_icmp};
 
 use crate::laws::to_ip;
 use ip_decode::IpView;
