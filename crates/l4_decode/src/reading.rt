@@ -1,5 +1,6 @@
 //! From the payload of an IP packet to what its transport header says.
 ghost use Rattle.std.specs.Prelude.{◌≡◌, ◌+◌, ◌^◌, ◌<◌, ◌≤◌, ◌↔◌, ◌||◌, IfOk, IsSome, IsTrue, length};
+ghost use Rattle.l4_decode.specs.Spelled.{ReadsIcmp, ReadsTcp, ReadsUdp};
 ghost use Rattle.l4_decode.specs.Transport.{l4_of};
 ghost use Rattle.suri_base.specs.Protocols.{has_ports, is_icmp};
 
@@ -26,6 +27,10 @@ pub fn l4(version: u8, proto: u8, bytes: &[u8], stated: u32) -> Result<L4View, C
     requires small { length bytes.now < 2 ^ 32 }
     // It is what the header says, or the first counter that applies.
     ensures view { result ≡ l4_of version proto stated bytes.now }
+    // A header that is spelled from fields, with options before its payload and padding behind it, is read as just those fields.
+    ensures segment { proto ≡ 6 → ReadsTcp stated bytes.now result }
+    ensures datagram { proto ≡ 17 → ReadsUdp bytes.now result }
+    ensures message { IsTrue (is_icmp version proto) → ReadsIcmp bytes.now result }
     // The payload lies in the bytes.
     ensures inside { IfOk result (λ v. v.pay_at + v.pay_len ≤ length bytes.now) }
     // The facts of TCP are there exactly for TCP, and those of ICMP exactly for the version's ICMP.
