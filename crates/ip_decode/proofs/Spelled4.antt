@@ -1,15 +1,17 @@
 -- An IPv4 packet that is spelled from fields is read as those fields.
-use Rattle.std.proofs.Common.{◌≡◌, ◌⊎◌, ℕ, zero, suc, ◌+◌, ◌-◌, ◌*◌, ◌/◌, ◌%◌, ◌^◌, ◌<◌, ◌≤◌, ◌&&◌, ◌||◌, ◌==◌, not, if◌then◌else◌, List, [], ◌∷◌, ◌++◌, length, min, slice_index, Bool, true, false, Result, Ok, Err, refl, sym, ap, ◌∙◌, arith, inl, inr, length-append}
+use Rattle.std.proofs.Common.{◌≡◌, ◌⊎◌, ℕ, zero, suc, ◌+◌, ◌-◌, ◌*◌, ◌/◌, ◌%◌, ◌^◌, ◌<◌, ◌≤◌, ◌&&◌, ◌||◌, ◌==◌, not, if◌then◌else◌, List, [], ◌∷◌, ◌++◌, length, take, drop, min, slice_index, Bool, true, false, Result, Ok, Err, refl, sym, ap, ◌∙◌, arith, inl, inr, length-append, append_assoc}
 use Rattle.std.specs.Int.Bits.{bit_and}
 use Rattle.std.proofs.lemmas.Bool.Decides.{nat_tests}
+use Rattle.std.proofs.lemmas.List.{drop_at, take_at}
 use Rattle.std.proofs.lemmas.Nat.{and_block, and_mask, mod_low}
 use Rattle.suri_base.specs.declared.counter.Counter.TheVariants.{Fragment}
 use Rattle.suri_base.specs.declared.counter.Counter.{Counter}
 use Rattle.header_fields.specs.Fields.{number_at}
+use Rattle.header_fields.specs.Spelled.{half, word}
 use Rattle.header_fields.proofs.Spelled.{half-spelled, word-spelled}
 use Rattle.ip_decode.specs.declared.view.IpView.{IpView}
 use Rattle.ip_decode.specs.Ip.{header_of, ipv4_of, ipv4_view, is_fragment_of, total_of, version_of}
-use Rattle.ip_decode.specs.Spelled4.{Ipv4Fields, IsIpv4, ReadsIpv4, fragment_field, header_len, ipv4_answer, ipv4_fields_view, ipv4_packet, total_len}
+use Rattle.ip_decode.specs.Spelled4.{Ipv4Fields, IsIpv4, ReadsIpv4, first_byte, fragment_field, header_len, ipv4_answer, ipv4_fields_view, ipv4_packet, total_len}
 
 -- a header without fault
 ipv4_of-whole : (bytes : List ℕ) → 20 ≤ length bytes → version_of bytes ≡ 4 → 20 ≤ header_of bytes → header_of bytes ≤ total_of bytes → header_of bytes ≤ length bytes
@@ -103,3 +105,18 @@ ipv4-spelled f is =
 -- so whatever is read by the definition is read so
 pub reads_ipv4 : (bytes : List ℕ) (result : Result IpView Counter) → result ≡ ipv4_of bytes → ReadsIpv4 bytes result
 reads_ipv4 bytes result read f is spelled = read ∙ ap ipv4_of spelled ∙ ipv4-spelled f is
+
+-- the header without its options
+abbrev fixed : Ipv4Fields → List ℕ
+fixed f =
+    (first_byte f ∷ f.service ∷ []) ++ half (total_len f) ++ half f.identification ++ half (fragment_field f)
+    ++ (f.ttl ∷ f.protocol ∷ []) ++ half f.checksum
+    ++ word f.source
+    ++ word f.destination
+
+-- the payload stands where the view says
+pub payload-spelled4 : (f : Ipv4Fields) → take (length f.payload) (drop (header_len f) (ipv4_packet f)) ≡ f.payload
+payload-spelled4 f =
+    ap (take (length f.payload)) (ap (drop (header_len f)) (append_assoc (fixed f ++ f.options) f.payload f.padding)
+        ∙ drop_at (fixed f ++ f.options) (f.payload ++ f.padding) (header_len f) (omega arith))
+    ∙ take_at f.payload f.padding (length f.payload) refl

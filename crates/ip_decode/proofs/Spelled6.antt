@@ -148,3 +148,10 @@ ipv6-spelled f is =
 -- so whatever is read by the definition is read so
 pub reads_ipv6 : (bytes : List ℕ) (result : Result IpView Counter) → result ≡ ipv6_of bytes → ReadsIpv6 bytes result
 reads_ipv6 bytes result read f is spelled = read ∙ ap ipv6_of spelled ∙ ipv6-spelled f is
+
+-- the payload stands where the view says
+pub payload-spelled6 : (f : Ipv6Fields) → take (length f.payload) (drop (40 + length (chain f.extensions f.protocol)) (ipv6_packet f)) ≡ f.payload
+payload-spelled6 f =
+    ap (take (length f.payload)) (ap (drop (40 + length (chain f.extensions f.protocol))) (append_assoc (header f ++ chain f.extensions f.protocol) f.payload f.padding)
+        ∙ drop_at (header f ++ chain f.extensions f.protocol) (f.payload ++ f.padding) (40 + length (chain f.extensions f.protocol)) (omega arith))
+    ∙ take_at f.payload f.padding (length f.payload) refl

@@ -33,7 +33,7 @@ tcp_made_of sport dport seq ack offset size f e1 e2 e3 e4 e5 e6 =
 length-segment : (f : TcpFields) → length (tcp_segment f) ≡ 20 + length f.options + length f.payload
 length-segment f = let all = length-append f.options f.payload in omega (arith, all)
 
-tcp-spelled : (stated : ℕ) (f : TcpFields) → IsTcp f → tcp_header_len f ≤ stated → tcp_of stated (tcp_segment f) ≡ Ok (tcp_fields_view f)
+pub tcp-spelled : (stated : ℕ) (f : TcpFields) → IsTcp f → tcp_header_len f ≤ stated → tcp_of stated (tcp_segment f) ≡ Ok (tcp_fields_view f)
 tcp-spelled stated f is fits =
     let sport : number_at 2 0 (tcp_segment f) ≡ f.source_port = half-spelled 0 f.source_port (tcp_segment f) _ is.source_port refl in
     let dport : number_at 2 2 (tcp_segment f) ≡ f.destination_port = half-spelled 2 f.destination_port (tcp_segment f) _ is.destination_port refl in
@@ -63,7 +63,7 @@ udp_payload f is =
       | inr none ↦ let empty : length f.padding ≡ 0 = ap length none in omega (arith, whole, size, empty)
     ]
 
-udp-spelled : (f : UdpFields) → IsUdp f → udp_of (udp_datagram f) ≡ Ok (udp_fields_view f)
+pub udp-spelled : (f : UdpFields) → IsUdp f → udp_of (udp_datagram f) ≡ Ok (udp_fields_view f)
 udp-spelled f is =
     let sport : number_at 2 0 (udp_datagram f) ≡ f.source_port = half-spelled 0 f.source_port (udp_datagram f) _ is.source_port refl in
     let dport : number_at 2 2 (udp_datagram f) ≡ f.destination_port = half-spelled 2 f.destination_port (udp_datagram f) _ is.destination_port refl in
@@ -72,7 +72,7 @@ udp-spelled f is =
     ∙ ap (λ n. Ok (ports_view f.source_port n (min (datagram_len (udp_datagram f)) (length (udp_datagram f)) - 8))) dport
     ∙ ap (λ n. Ok (ports_view f.source_port f.destination_port n)) (udp_payload f is)
 
-icmp-spelled : (f : IcmpFields) → icmp_of (icmp_message f) ≡ Ok (icmp_fields_view f)
+pub icmp-spelled : (f : IcmpFields) → icmp_of (icmp_message f) ≡ Ok (icmp_fields_view f)
 unfolding icmp_of
 icmp-spelled f = grind (arith, nat_tests)
 
@@ -85,3 +85,16 @@ reads_udp bytes result read f is spelled = read ∙ ap udp_of spelled ∙ udp-sp
 
 pub reads_icmp : (bytes : List ℕ) (result : Result L4View Counter) → result ≡ icmp_of bytes → ReadsIcmp bytes result
 reads_icmp bytes result read f spelled = read ∙ ap icmp_of spelled ∙ icmp-spelled f
+
+-- the definition for each protocol
+pub l4_of-tcp : (version proto stated : ℕ) (bytes : List ℕ) → proto ≡ 6 → l4_of version proto stated bytes ≡ tcp_of stated bytes
+unfolding l4_of
+l4_of-tcp version proto stated bytes six = rw six refl
+
+pub l4_of-udp : (version proto stated : ℕ) (bytes : List ℕ) → proto ≡ 17 → l4_of version proto stated bytes ≡ udp_of bytes
+unfolding l4_of
+l4_of-udp version proto stated bytes seventeen = rw seventeen refl
+
+pub l4_of-icmp : (version proto stated : ℕ) (bytes : List ℕ) → IsTrue (is_icmp version proto) → l4_of version proto stated bytes ≡ icmp_of bytes
+unfolding l4_of
+l4_of-icmp version proto stated bytes icmp = grind (arith, nat_tests, icmp)

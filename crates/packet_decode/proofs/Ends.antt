@@ -77,7 +77,7 @@ behind_type-end (suc room) ethertype bytes c is = elim (bool_is (is_tag ethertyp
 headed-short : (size at : ℕ) (frame : List ℕ) → length frame < size → headed_packet_of size at frame ≡ Err LinkSmall
 headed-short size at frame short = let test : nat_lt (length frame) size ≡ true = grind (arith, nat_tests) in rw test refl
 
-headed-long : (size at : ℕ) (frame : List ℕ) → size ≤ length frame → headed_packet_of size at frame ≡ behind_type 3 (number_at 2 at frame) (drop size frame)
+pub headed-long : (size at : ℕ) (frame : List ℕ) → size ≤ length frame → headed_packet_of size at frame ≡ behind_type 3 (number_at 2 at frame) (drop size frame)
 headed-long size at frame long = let test : nat_lt (length frame) size ≡ false = grind (arith, nat_tests) in rw test refl
 
 headed-end : (size at : ℕ) (frame : List ℕ) (c : Carried) → headed_packet_of size at frame ≡ Ok c → EndsIn frame c.packet
