@@ -1,5 +1,5 @@
 -- An IPv4 packet that is spelled from fields is read as those fields.
-use Rattle.std.proofs.Common.{◌≡◌, ◌⊎◌, ℕ, zero, suc, ◌+◌, ◌-◌, ◌*◌, ◌/◌, ◌%◌, ◌^◌, ◌<◌, ◌≤◌, ◌&&◌, ◌||◌, ◌==◌, not, if◌then◌else◌, List, [], ◌∷◌, ◌++◌, length, take, drop, min, slice_index, Bool, true, false, Result, Ok, Err, refl, sym, ap, ◌∙◌, arith, inl, inr, length-append, append_assoc}
+use Rattle.std.proofs.Common.{◌≡◌, ◌⊎◌, ℕ, ◌+◌, ◌-◌, ◌*◌, ◌%◌, ◌^◌, ◌<◌, ◌≤◌, ◌&&◌, ◌||◌, ◌==◌, not, if◌then◌else◌, List, [], ◌∷◌, ◌++◌, length, take, drop, min, Bool, true, false, Result, Ok, Err, refl, ap, ◌∙◌, arith, inl, inr, length-append, append_assoc}
 use Rattle.std.specs.Int.Bits.{bit_and}
 use Rattle.std.proofs.lemmas.Bool.Decides.{nat_tests}
 use Rattle.std.proofs.lemmas.List.{drop_at, take_at}
@@ -118,5 +118,5 @@ fixed f =
 pub payload-spelled4 : (f : Ipv4Fields) → take (length f.payload) (drop (header_len f) (ipv4_packet f)) ≡ f.payload
 payload-spelled4 f =
     ap (take (length f.payload)) (ap (drop (header_len f)) (append_assoc (fixed f ++ f.options) f.payload f.padding)
-        ∙ drop_at (fixed f ++ f.options) (f.payload ++ f.padding) (header_len f) (omega arith))
+    ∙ drop_at (fixed f ++ f.options) (f.payload ++ f.padding) (header_len f) (omega arith))
     ∙ take_at f.payload f.padding (length f.payload) refl

@@ -1,12 +1,11 @@
 -- An IPv6 packet that is spelled from fields is read as those fields.
-use Rattle.std.proofs.Common.{◌≡◌, ◌⊎◌, ℕ, zero, suc, ◌+◌, ◌-◌, ◌*◌, ◌/◌, ◌%◌, ◌^◌, ◌<◌, ◌≤◌, ◌&&◌, ◌||◌, ◌==◌, nat_lt, not, if◌then◌else◌, List, [], ◌∷◌, ◌++◌, length, take, drop, min, slice_index, Bool, true, false, Result, Ok, Err, refl, sym, ap, ◌∙◌, arith, inl, inr, length-append, append_assoc, append-nil, sub-one, subst}
+use Rattle.std.proofs.Common.{◌≡◌, ℕ, ◌+◌, ◌-◌, ◌*◌, ◌/◌, ◌%◌, ◌≤◌, ◌&&◌, ◌||◌, ◌==◌, not, List, [], ◌∷◌, ◌++◌, length, take, drop, true, false, Result, Ok, refl, sym, ap, ◌∙◌, arith, inl, inr, length-append, append_assoc, append-nil, subst}
 use Rattle.std.proofs.lemmas.Bool.Decides.{nat_tests}
 use Rattle.std.proofs.lemmas.List.{drop_at, take_at, take_all}
 use Rattle.suri_base.specs.declared.counter.Counter.{Counter}
 use Rattle.header_fields.specs.Fields.{number_at}
 use Rattle.header_fields.specs.Spelled.{address, half, word}
 use Rattle.header_fields.proofs.Spelled.{address-spelled, half-spelled}
-use Rattle.ip_decode.specs.declared.extensions.Upper.{Upper}
 use Rattle.ip_decode.specs.declared.view.IpView.{IpView}
 use Rattle.ip_decode.specs.Extensions.{and_then, extension_size, is_extension, is_fragment_header, stated_size, upper_of}
 use Rattle.ip_decode.specs.Ip.{ipv6_of, ipv6_view, packet_of, version_of, whole_of}
@@ -153,5 +152,5 @@ reads_ipv6 bytes result read f is spelled = read ∙ ap ipv6_of spelled ∙ ipv6
 pub payload-spelled6 : (f : Ipv6Fields) → take (length f.payload) (drop (40 + length (chain f.extensions f.protocol)) (ipv6_packet f)) ≡ f.payload
 payload-spelled6 f =
     ap (take (length f.payload)) (ap (drop (40 + length (chain f.extensions f.protocol))) (append_assoc (header f ++ chain f.extensions f.protocol) f.payload f.padding)
-        ∙ drop_at (header f ++ chain f.extensions f.protocol) (f.payload ++ f.padding) (40 + length (chain f.extensions f.protocol)) (omega arith))
+    ∙ drop_at (header f ++ chain f.extensions f.protocol) (f.payload ++ f.padding) (40 + length (chain f.extensions f.protocol)) (omega arith))
     ∙ take_at f.payload f.padding (length f.payload) refl

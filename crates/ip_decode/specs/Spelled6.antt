@@ -1,5 +1,5 @@
 -- How an IPv6 packet is spelled from its fields, and what such a packet is to be read as.
-use Rattle.std.specs.Prelude.{◌≡◌, ◌⊎◌, ℕ, ◌+◌, ◌*◌, ◌^◌, ◌<◌, ◌≤◌, List, [], ◌∷◌, ◌++◌, length, Bool, false, Result, Ok}
+use Rattle.std.specs.Prelude.{◌≡◌, ◌⊎◌, ℕ, ◌+◌, ◌*◌, ◌^◌, ◌<◌, ◌≤◌, List, [], ◌∷◌, ◌++◌, length, false, Result, Ok}
 use Rattle.suri_base.specs.declared.counter.Counter.{Counter}
 use Rattle.header_fields.specs.Spelled.{address, half, word}
 use Rattle.ip_decode.specs.declared.view.IpView.{IpView}

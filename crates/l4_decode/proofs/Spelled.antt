@@ -1,5 +1,5 @@
 -- Transport headers that are spelled from fields are read as those fields.
-use Rattle.std.proofs.Common.{◌≡◌, ◌⊎◌, ℕ, ◌+◌, ◌-◌, ◌*◌, ◌/◌, ◌%◌, ◌^◌, ◌<◌, ◌≤◌, List, [], ◌∷◌, ◌++◌, length, min, slice_index, Some, None, Result, Ok, refl, sym, ap, ◌∙◌, arith, inl, inr, length-append}
+use Rattle.std.proofs.Common.{◌≡◌, ℕ, ◌+◌, ◌-◌, ◌≤◌, List, length, min, Some, None, Result, Ok, refl, ap, ◌∙◌, arith, inl, inr, length-append}
 use Rattle.std.specs.Prelude.{IsTrue}
 use Rattle.std.proofs.lemmas.Bool.Decides.{nat_tests}
 use Rattle.suri_base.specs.declared.counter.Counter.{Counter}
@@ -42,7 +42,7 @@ tcp-spelled stated f is fits =
     let offset : data_offset (tcp_segment f) ≡ 20 + length f.options = omega (arith, is.reserved, is.words, is.few) in
     let size = length-segment f in
     let view = tcp_made_of (number_at 2 0 (tcp_segment f)) (number_at 2 2 (tcp_segment f)) (number_at 4 4 (tcp_segment f)) (number_at 4 8 (tcp_segment f))
-        (data_offset (tcp_segment f)) (length (tcp_segment f)) f sport dport seq ack offset size in
+    (data_offset (tcp_segment f)) (length (tcp_segment f)) f sport dport seq ack offset size in
     tcp_of-whole stated (tcp_segment f) (omega (arith, size)) (omega (arith, offset)) (omega (arith, offset, fits)) ∙ ap (λ (v : L4View). Ok v) view
 
 -- a view of ports alone

@@ -1,7 +1,6 @@
 -- How transport headers are spelled from their fields, and what they are to be read as.
 use Rattle.std.specs.Prelude.{◌≡◌, ◌⊎◌, ℕ, ◌+◌, ◌*◌, ◌/◌, ◌%◌, ◌^◌, ◌<◌, ◌≤◌, List, [], ◌∷◌, ◌++◌, length, Some, None, Result, Ok}
 use Rattle.suri_base.specs.declared.counter.Counter.{Counter}
-use Rattle.suri_base.specs.Protocols.{is_icmp}
 use Rattle.header_fields.specs.Spelled.{half, word}
 use Rattle.l4_decode.specs.declared.view.L4View.{L4View}
 

@@ -1,7 +1,6 @@
 -- A frame that is spelled from fields is read as its tags and what its packet is read as.
-use Rattle.std.proofs.Common.{◌≡◌, ◌⊎◌, ℕ, zero, suc, ◌+◌, ◌-◌, ◌*◌, ◌/◌, ◌%◌, ◌^◌, ◌<◌, ◌≤◌, ◌==◌, List, [], ◌∷◌, ◌++◌, length, drop, Bool, true, false, Result, Ok, Err, refl, sym, ap, ◌∙◌, arith, inl, inr, length-append, append_assoc, subst}
+use Rattle.std.proofs.Common.{◌≡◌, ◌⊎◌, ℕ, ◌+◌, ◌-◌, ◌*◌, ◌%◌, ◌^◌, ◌<◌, ◌≤◌, List, [], ◌∷◌, ◌++◌, length, drop, true, false, Result, Ok, refl, sym, ap, ◌∙◌, arith, inl, inr, length-append, append_assoc}
 use Rattle.std.proofs.lemmas.List.{drop_at, drop-drop}
-use Rattle.std.proofs.lemmas.Bool.Decides.{nat_tests}
 use Rattle.suri_base.specs.declared.counter.Counter.{Counter}
 use Rattle.header_fields.specs.Fields.{number_at}
 use Rattle.header_fields.specs.Spelled.{half}
@@ -12,7 +11,7 @@ use Rattle.ip_decode.specs.Ip.{ip_of}
 use Rattle.packet_decode.specs.declared.laws.Inner.{Inner}
 use Rattle.packet_decode.specs.Frame.{carried_by, headed_packet_of, inner_of, to_ip_of}
 use Rattle.packet_decode.specs.Spelled.{AllTags, FrameFields, IsFrame, IsTag, ReadsFrame, Tag, frame, ids_of, packet_at, tagged, type_of, types}
-use Rattle.packet_decode.specs.Tags.{Carried, behind_type, inside, is_tag, packet_of, vlans_of}
+use Rattle.packet_decode.specs.Tags.{behind_type, inside, is_tag, packet_of, vlans_of}
 use Rattle.packet_decode.proofs.Ends.{headed-long}
 use Rattle.packet_decode.proofs.SoFar.{behind_type-packet, behind_type-tag}
 

@@ -1,23 +1,21 @@
 -- A frame whose headers are all spelled from fields is read as just those fields.
-use Rattle.std.proofs.Common.{◌≡◌, ◌⊎◌, ℕ, ◌+◌, ◌&&◌, ◌==◌, if◌then◌else◌, List, ◌++◌, length, take, drop, Result, Ok, Err, refl, sym, ap, ◌∙◌, inl, inr}
+use Rattle.std.proofs.Common.{◌≡◌, ℕ, ◌+◌, List, length, take, drop, Result, Ok, refl, sym, ap, ◌∙◌, inl, inr}
 use Rattle.std.proofs.lemmas.List.{drop_at, drop-drop}
 use Rattle.suri_base.specs.declared.counter.Counter.{Counter}
-use Rattle.suri_base.specs.declared.counter.Counter.TheVariants.{Fragment}
 use Rattle.ip_decode.specs.declared.view.IpView.{IpView}
 use Rattle.ip_decode.specs.Extensions.{and_then}
 use Rattle.ip_decode.specs.Ip.{ip_of, ipv4_of, ipv6_of}
-use Rattle.ip_decode.specs.Spelled4.{ipv4_answer, ipv4_fields_view, ipv4_packet}
-use Rattle.ip_decode.specs.Spelled6.{ipv6_fields_view, ipv6_packet}
+use Rattle.ip_decode.specs.Spelled4.{ipv4_answer, ipv4_fields_view}
+use Rattle.ip_decode.specs.Spelled6.{ipv6_fields_view}
 use Rattle.ip_decode.proofs.Spelled4.{ipv4-spelled, payload-spelled4}
 use Rattle.ip_decode.proofs.Spelled6.{ipv6-spelled, payload-spelled6}
 use Rattle.l4_decode.specs.declared.view.L4View.{L4View}
 use Rattle.l4_decode.specs.Transport.{icmp_of, l4_of, tcp_of, udp_of}
 use Rattle.l4_decode.proofs.Spelled.{icmp-spelled, l4_of-icmp, l4_of-tcp, l4_of-udp, tcp-spelled, udp-spelled}
-use Rattle.packet_decode.specs.declared.laws.Inner.{Inner}
 use Rattle.packet_decode.specs.declared.whole.View.{View}
 use Rattle.packet_decode.specs.Frame.{to_ip_of}
 use Rattle.packet_decode.specs.Layers.{payload_of, transport_of, view_of, with_transport}
-use Rattle.packet_decode.specs.Spelled.{FrameFields, IsFrame, ReadsWhole, SpellsIp, SpellsIpv4, SpellsIpv6, SpellsTransport, frame, packet_at, tagged, type_of, types, whole_view}
+use Rattle.packet_decode.specs.Spelled.{FrameFields, IsFrame, ReadsWhole, SpellsIp, SpellsTransport, frame, packet_at, tagged, whole_view}
 use Rattle.packet_decode.proofs.SpelledFrame.{frame-spelled, header_bytes, length-header}
 
 -- what the packet is read as
