@@ -1,3 +1,4 @@
 pub mod Extensions
-pub mod Fields
 pub mod Ip
+pub mod Spelled4
+pub mod Spelled6

@@ -1,8 +1,8 @@
 //! The extension headers of IPv6 (RFC 8200, section 4).
 ghost use Rattle.std.specs.Prelude.{◌≡◌, ◌^◌, ◌<◌, ◌≤◌, IfOk, length};
-ghost use Rattle.ip_decode.specs.Extensions.{extension_size, is_extension, is_piece, stated_size, upper_of};
+ghost use Rattle.ip_decode.specs.Extensions.{extension_size, is_extension, is_fragment_header, stated_size, upper_of};
 
-use crate::fields::half_at;
+use header_fields::half_at;
 use suri_base::Counter;
 
 // The next headers that are extension headers.
@@ -64,11 +64,11 @@ fn stated_len(kind: u8, bytes: &[u8]) -> usize
     }
 }
 
-// Whether a fragment header is one of a real piece. One that is not stands before a whole packet
+// Whether a fragment header is that of a real fragment. One that is not stands before a whole packet
 // (RFC 6946).
 fn is_fragment(bytes: &[u8]) -> bool
     requires { LEAST_LEN ≤ length bytes.now }
-    ensures { result ≡ is_piece bytes.now }
+    ensures { result ≡ is_fragment_header bytes.now }
 {
     let field = half_at(bytes, OFFSET_AT);
     field / 8 != 0 || field & MORE_FRAGMENTS != 0

@@ -1,9 +1,9 @@
 //! The IPv4 header (RFC 791, section 3.1).
 ghost use Rattle.std.specs.Prelude.{◌≡◌, ◌+◌, ◌^◌, ◌<◌, ◌≤◌, IfOk, length};
-ghost use Rattle.ip_decode.specs.Ip.{header_of, ipv4_of, is_part, total_of};
+ghost use Rattle.ip_decode.specs.Ip.{header_of, ipv4_of, is_fragment_of, total_of};
 
-use crate::fields::{half_at, word_at};
 use crate::view::IpView;
+use header_fields::{half_at, word_at};
 use suri_base::Counter;
 
 // The length of a header without options, in bytes.
@@ -27,10 +27,10 @@ const MORE_FRAGMENTS: u16 = 0x2000;
 
 const FRAGMENT_OFFSET: u16 = 0x1fff;
 
-// Whether the packet is a piece of a datagram: more pieces follow, or some come before.
+// Whether the packet is a fragment of a datagram: more fragments follow, or some come before.
 fn is_fragment(bytes: &[u8]) -> bool
     requires { HEADER_LEN ≤ length bytes.now }
-    ensures { result ≡ is_part bytes.now }
+    ensures { result ≡ is_fragment_of bytes.now }
 {
     let field = half_at(bytes, FRAGMENT_AT);
     field & MORE_FRAGMENTS != 0 || field & FRAGMENT_OFFSET != 0

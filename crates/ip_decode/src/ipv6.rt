@@ -3,8 +3,8 @@ ghost use Rattle.std.specs.Prelude.{◌≡◌, ◌+◌, ◌^◌, ◌<◌, ◌≤
 ghost use Rattle.ip_decode.specs.Ip.{ipv6_of, whole_of};
 
 use crate::extensions::read_upper;
-use crate::fields::{address_at, half_at};
 use crate::view::IpView;
+use header_fields::{address_at, half_at};
 use suri_base::Counter;
 
 // The length of the header, in bytes.

@@ -2,7 +2,6 @@
 #![tactic(auto)]
 
 mod extensions;
-mod fields;
 mod ipv4;
 mod ipv6;
 mod reading;

@@ -1,6 +1,8 @@
 //! From the bytes of a packet to what its IP header says.
 ghost use Rattle.std.specs.Prelude.{◌≡◌, ◌+◌, ◌^◌, ◌<◌, ◌≤◌, ◌⊎◌, IfOk, length};
 ghost use Rattle.ip_decode.specs.Ip.{ip_of};
+ghost use Rattle.ip_decode.specs.Spelled4.{ReadsIpv4};
+ghost use Rattle.ip_decode.specs.Spelled6.{ReadsIpv6};
 
 use crate::ipv4::read_ipv4;
 use crate::ipv6::read_ipv6;
@@ -22,6 +24,10 @@ pub fn ip(bytes: &[u8], version: u8) -> Result<IpView, Counter>
     requires small { length bytes.now < 2 ^ 32 }
     // It is what the header says, or the first counter that applies.
     ensures view { result ≡ ip_of version bytes.now }
+    // A packet that is spelled from fields, with options or extension headers before its payload and padding behind it,
+    // is read as just those fields.
+    ensures ipv4 { version ≡ 4 → ReadsIpv4 bytes.now result }
+    ensures ipv6 { version ≡ 6 → ReadsIpv6 bytes.now result }
     // The version is the one that was asked for.
     ensures version { IfOk result (λ v. v.version ≡ version) }
     // The payload lies in the bytes, and is no longer than stated.

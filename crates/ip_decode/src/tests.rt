@@ -5,19 +5,19 @@ use std::process::Abort;
 use std::test::Fail;
 use suri_base::Counter;
 
-// From 10.0.0.1 to 10.0.0.2, TTL 64, eight bytes of UDP.
+// From 10.11.12.13 to 192.168.1.254, TTL 55, eight bytes of UDP. Every field differs from every other.
 const IPV4: [u8; 28] = [
-    0x45, 0, 0, 28, 0, 0, 0x40, 0, 64, 17, 0, 0, 10, 0, 0, 1, 10, 0, 0, 2, //
-    0x03, 0xe8, 0x07, 0xd0, 0, 8, 0, 0,
+    0x45, 0x21, 0, 28, 0x43, 0x65, 0x40, 0, 55, 17, 0xa9, 0xcb, 10, 11, 12, 13, 192, 168, 1, 254, //
+    0x03, 0xe8, 0x07, 0xd0, 0, 8, 0x31, 0x32,
 ];
 
-// From 2001:db8::1 to 2001:db8::2, hop limit 64, one header of hop-by-hop options, eight bytes of UDP.
+// Hop limit 61, one header of hop-by-hop options, eight bytes of UDP. Every field differs from every other.
 const IPV6: [u8; 56] = [
-    0x60, 0, 0, 0, 0, 16, 0, 64, //
-    0x20, 0x01, 0x0d, 0xb8, 0, 0, 0, 0, 0, 0, 0, 0, 0, 0, 0, 1, //
-    0x20, 0x01, 0x0d, 0xb8, 0, 0, 0, 0, 0, 0, 0, 0, 0, 0, 0, 2, //
-    17, 0, 1, 4, 0, 0, 0, 0, //
-    0x03, 0xe8, 0x07, 0xd0, 0, 8, 0, 0,
+    0x6c, 0x12, 0x34, 0x56, 0, 16, 0, 61, //
+    0x20, 0x01, 0x0d, 0xb8, 0x11, 0x12, 0x13, 0x14, 0x15, 0x16, 0x17, 0x18, 0x19, 0x1a, 0x1b, 0x1c, //
+    0x20, 0x02, 0x0e, 0xb9, 0x21, 0x22, 0x23, 0x24, 0x25, 0x26, 0x27, 0x28, 0x29, 0x2a, 0x2b, 0x2c, //
+    17, 0, 1, 4, 0x35, 0x36, 0x37, 0x38, //
+    0x03, 0xe8, 0x07, 0xd0, 0, 8, 0x31, 0x32,
 ];
 
 // Protocol, place of the payload, its captured and its stated length.
@@ -48,9 +48,9 @@ fn payload(rt: &impl Abort, packet: &[u8], version: u8) -> Result<Payload, Count
 fn reads_whole_headers(rt: HostRuntime) -> Result<(), Fail> {
     let four = IpView {
         version: 4,
-        src: 0x0a00_0001,
-        dst: 0x0a00_0002,
-        ttl: 64,
+        src: 0x0a0b_0c0d,
+        dst: 0xc0a8_01fe,
+        ttl: 55,
         proto: 17,
         pay_at: 20,
         pay_len: 8,
@@ -58,9 +58,9 @@ fn reads_whole_headers(rt: HostRuntime) -> Result<(), Fail> {
     };
     let six = IpView {
         version: 6,
-        src: 0x2001_0db8_0000_0000_0000_0000_0000_0001,
-        dst: 0x2001_0db8_0000_0000_0000_0000_0000_0002,
-        ttl: 64,
+        src: 0x2001_0db8_1112_1314_1516_1718_191a_1b1c,
+        dst: 0x2002_0eb9_2122_2324_2526_2728_292a_2b2c,
+        ttl: 61,
         proto: 17,
         pay_at: 48,
         pay_len: 8,
@@ -97,7 +97,7 @@ fn reads_cut_packets(rt: HostRuntime) -> Result<(), Fail> {
 #[test]
 fn reads_odd_ipv4(rt: HostRuntime) -> Result<(), Fail> {
     let alloc = rt.alloc();
-    let table: [(usize, &[u8], Result<Payload, Counter>); 20] = [
+    let table: [(usize, &[u8], Result<Payload, Counter>); 35] = [
         // Total length: left to the card, too small, least, more than captured, less than captured.
         (2, &[0, 0], Ok((17, 20, 8, 8))),
         (2, &[0, 1], Err(Counter::IpHeader)),
@@ -115,9 +115,24 @@ fn reads_odd_ipv4(rt: HostRuntime) -> Result<(), Fail> {
         (0, &[0x4f, 0, 0, 0], Err(Counter::IpHeader)),
         (0, &[0x65], Err(Counter::IpVersion)),
         (0, &[0x05], Err(Counter::IpVersion)),
-        // The fragment field: more fragments, the least and the greatest offset, the reserved bit.
-        (6, &[0x20, 0], Err(Counter::Fragment)),
-        (6, &[0x40, 1], Err(Counter::Fragment)),
+        // The fragment field, bit by bit: reserved, don't fragment, more fragments, thirteen of the offset.
+        (6, &[0x00, 0x00], Ok((17, 20, 8, 8))),
+        (6, &[0x80, 0x00], Ok((17, 20, 8, 8))),
+        (6, &[0x40, 0x00], Ok((17, 20, 8, 8))),
+        (6, &[0x20, 0x00], Err(Counter::Fragment)),
+        (6, &[0x10, 0x00], Err(Counter::Fragment)),
+        (6, &[0x08, 0x00], Err(Counter::Fragment)),
+        (6, &[0x04, 0x00], Err(Counter::Fragment)),
+        (6, &[0x02, 0x00], Err(Counter::Fragment)),
+        (6, &[0x01, 0x00], Err(Counter::Fragment)),
+        (6, &[0x00, 0x80], Err(Counter::Fragment)),
+        (6, &[0x00, 0x40], Err(Counter::Fragment)),
+        (6, &[0x00, 0x20], Err(Counter::Fragment)),
+        (6, &[0x00, 0x10], Err(Counter::Fragment)),
+        (6, &[0x00, 0x08], Err(Counter::Fragment)),
+        (6, &[0x00, 0x04], Err(Counter::Fragment)),
+        (6, &[0x00, 0x02], Err(Counter::Fragment)),
+        (6, &[0x00, 0x01], Err(Counter::Fragment)),
         (6, &[0x1f, 0xff], Err(Counter::Fragment)),
         (6, &[0xc0, 0], Ok((17, 20, 8, 8))),
         (8, &[0, 255], Ok((255, 20, 8, 8))),
@@ -163,15 +178,28 @@ fn reads_odd_ipv6(rt: HostRuntime) -> Result<(), Fail> {
 #[test]
 fn reads_fragment_and_authentication(rt: HostRuntime) -> Result<(), Fail> {
     let alloc = rt.alloc();
-    let table: [(u8, &[u8], Result<Payload, Counter>); 11] = [
+    let table: [(u8, &[u8], Result<Payload, Counter>); 24] = [
         // A fragment header that is none; its length byte and its reserved bits are ignored.
         (44, &[17, 0, 0, 0], Ok((17, 48, 8, 8))),
         (44, &[17, 255, 0, 0], Ok((17, 48, 8, 8))),
         (44, &[17, 0, 0, 6], Ok((17, 48, 8, 8))),
-        // More pieces follow, or some stand before.
+        // More fragments follow, or some stand before.
         (44, &[17, 0, 0, 1], Err(Counter::Fragment)),
         (44, &[17, 0, 0, 8], Err(Counter::Fragment)),
         (44, &[17, 0, 0xff, 0xf8], Err(Counter::Fragment)),
+        (44, &[17, 0, 0x00, 0x02], Ok((17, 48, 8, 8))),
+        (44, &[17, 0, 0x00, 0x10], Err(Counter::Fragment)),
+        (44, &[17, 0, 0x00, 0x20], Err(Counter::Fragment)),
+        (44, &[17, 0, 0x00, 0x40], Err(Counter::Fragment)),
+        (44, &[17, 0, 0x00, 0x80], Err(Counter::Fragment)),
+        (44, &[17, 0, 0x01, 0x00], Err(Counter::Fragment)),
+        (44, &[17, 0, 0x02, 0x00], Err(Counter::Fragment)),
+        (44, &[17, 0, 0x04, 0x00], Err(Counter::Fragment)),
+        (44, &[17, 0, 0x08, 0x00], Err(Counter::Fragment)),
+        (44, &[17, 0, 0x10, 0x00], Err(Counter::Fragment)),
+        (44, &[17, 0, 0x20, 0x00], Err(Counter::Fragment)),
+        (44, &[17, 0, 0x40, 0x00], Err(Counter::Fragment)),
+        (44, &[17, 0, 0x80, 0x00], Err(Counter::Fragment)),
         // An authentication header counts in units of four bytes, less two.
         (51, &[17, 0, 0, 0], Ok((17, 48, 8, 8))),
         (51, &[17, 1, 0, 0], Ok((17, 52, 4, 4))),
@@ -208,14 +236,14 @@ fn with_extensions(
 fn counts_extension_headers(rt: HostRuntime) -> Result<(), Fail> {
     let alloc = rt.alloc();
     let whole: [u8; 8] = [17, 0, 0, 0, 0, 0, 0, 0];
-    let piece: [u8; 8] = [17, 0, 0, 1, 0, 0, 0, 0];
+    let fragment: [u8; 8] = [17, 0, 0, 1, 0, 0, 0, 0];
     let table: [(u8, u8, &[u8], Result<Payload, Counter>); 6] = [
         (16, 17, &[], Ok((17, 168, 8, 8))),
         (17, 17, &[], Err(Counter::IpExtensions)),
         (15, 44, &whole, Ok((17, 168, 8, 8))),
-        (15, 44, &piece, Err(Counter::Fragment)),
+        (15, 44, &fragment, Err(Counter::Fragment)),
         (16, 44, &whole, Err(Counter::IpExtensions)),
-        (16, 44, &piece, Err(Counter::IpExtensions)),
+        (16, 44, &fragment, Err(Counter::IpExtensions)),
     ];
     for (count, last, header, want) in &table {
         let packet = with_extensions(alloc, *count, *last, header)?;

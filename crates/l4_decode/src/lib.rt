@@ -1,7 +1,6 @@
 //! Reads transport headers: TCP (RFC 9293), UDP (RFC 768) and ICMP (RFC 792, RFC 4443).
 #![tactic(auto)]
 
-mod fields;
 mod icmp;
 mod reading;
 mod tcp;

@@ -2,8 +2,8 @@
 ghost use Rattle.std.specs.Prelude.{◌≡◌, ◌+◌, ◌^◌, ◌<◌, ◌≤◌, IfOk, IsNone, IsSome, length};
 ghost use Rattle.l4_decode.specs.Transport.{data_offset, tcp_of};
 
-use crate::fields::{half_at, word_at};
 use crate::view::L4View;
+use header_fields::{half_at, word_at};
 use suri_base::{Counter, TcpFacts};
 
 // The length of a header without options, in bytes.

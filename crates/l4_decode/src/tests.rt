@@ -5,17 +5,20 @@ use std::process::Abort;
 use std::test::Fail;
 use suri_base::{Counter, IcmpFacts, TcpFacts};
 
-// From port 1000 to port 2000: a segment with one word of options and the payload "abcd".
+// From port 1000 to port 2000: a segment with one word of options and the payload "abcd". Every field
+// differs from every other.
 const TCP: [u8; 28] = [
     0x03, 0xe8, 0x07, 0xd0, 0x01, 0x02, 0x03, 0x04, 0x05, 0x06, 0x07, 0x08, //
-    0x60, 0x18, 0xff, 0xff, 0, 0, 0, 0, 1, 1, 1, 0, 0x61, 0x62, 0x63, 0x64,
+    0x6f, 0x18, 0x21, 0x22, 0x23, 0x24, 0x25, 0x26, 1, 1, 1, 0, 0x61, 0x62, 0x63, 0x64,
 ];
 
 // From port 1000 to port 2000: a datagram with the payload "abcd".
-const UDP: [u8; 12] = [0x03, 0xe8, 0x07, 0xd0, 0, 12, 0, 0, 0x61, 0x62, 0x63, 0x64];
+const UDP: [u8; 12] = [
+    0x03, 0xe8, 0x07, 0xd0, 0, 12, 0x31, 0x32, 0x61, 0x62, 0x63, 0x64,
+];
 
 // Destination unreachable, host unreachable.
-const ICMP: [u8; 8] = [3, 1, 0, 0, 0, 0, 0, 0];
+const ICMP: [u8; 8] = [3, 1, 0x31, 0x32, 0x41, 0x42, 0x43, 0x44];
 
 // The place of the payload and its captured length.
 type Payload = (u32, u32);
@@ -126,6 +129,28 @@ fn reads_cut_headers(rt: HostRuntime) -> Result<(), Fail> {
             Ok((end as u32, 0))
         };
         assert_eq!(rt; payload(&rt, 1, &ICMP[..end], 8), want, "ICMP, {end} bytes");
+    }
+    Ok(())
+}
+
+#[test]
+fn reads_each_flag(rt: HostRuntime) -> Result<(), Fail> {
+    let alloc = rt.alloc();
+    for flags in [0x00, 0x01, 0x02, 0x04, 0x08, 0x10, 0x20, 0x40, 0x80, 0xd9] {
+        let segment = patched(alloc, &TCP, 13, &[flags])?;
+        let want = L4View {
+            sport: 1000,
+            dport: 2000,
+            tcp: Some(TcpFacts {
+                seq: 0x0102_0304,
+                ack: 0x0506_0708,
+                flags,
+            }),
+            icmp: None,
+            pay_at: 24,
+            pay_len: 4,
+        };
+        assert_eq!(rt; read(&rt, 4, 6, &segment, 28), Ok(want), "flags {flags}");
     }
     Ok(())
 }

@@ -2,8 +2,8 @@
 ghost use Rattle.std.specs.Prelude.{◌≡◌, ◌+◌, ◌^◌, ◌<◌, ◌≤◌, IfOk, IsNone, length};
 ghost use Rattle.l4_decode.specs.Transport.{datagram_len, udp_of};
 
-use crate::fields::half_at;
 use crate::view::L4View;
+use header_fields::half_at;
 use suri_base::Counter;
 
 // The length of the header, in bytes.

@@ -5,7 +5,7 @@ use Rattle.std.proofs.lemmas.Bool.Decides.{nat_tests}
 use Rattle.std.proofs.lemmas.List.{drop-drop}
 use Rattle.suri_base.specs.declared.counter.Counter.{Counter}
 use Rattle.suri_base.specs.declared.counter.Counter.TheVariants.{Ethertype, IpSmall, IpVersion, LinkSmall}
-use Rattle.ip_decode.specs.Fields.{number_at}
+use Rattle.header_fields.specs.Fields.{number_at}
 use Rattle.packet_decode.specs.Frame.{carried_by, headed_packet_of, raw_packet_of}
 use Rattle.packet_decode.specs.Tags.{Carried, behind_type, inside, is_tag, packet_of}
 use Rattle.packet_decode.proofs.SoFar.{behind_type-cut, behind_type-deep, behind_type-packet, behind_type-tag}
@@ -77,7 +77,7 @@ behind_type-end (suc room) ethertype bytes c is = elim (bool_is (is_tag ethertyp
 headed-short : (size at : ℕ) (frame : List ℕ) → length frame < size → headed_packet_of size at frame ≡ Err LinkSmall
 headed-short size at frame short = let test : nat_lt (length frame) size ≡ true = grind (arith, nat_tests) in rw test refl
 
-headed-long : (size at : ℕ) (frame : List ℕ) → size ≤ length frame → headed_packet_of size at frame ≡ behind_type 3 (number_at 2 at frame) (drop size frame)
+pub headed-long : (size at : ℕ) (frame : List ℕ) → size ≤ length frame → headed_packet_of size at frame ≡ behind_type 3 (number_at 2 at frame) (drop size frame)
 headed-long size at frame long = let test : nat_lt (length frame) size ≡ false = grind (arith, nat_tests) in rw test refl
 
 headed-end : (size at : ℕ) (frame : List ℕ) (c : Carried) → headed_packet_of size at frame ≡ Ok c → EndsIn frame c.packet

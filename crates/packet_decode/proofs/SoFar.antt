@@ -4,7 +4,7 @@ use Rattle.std.proofs.lemmas.Bool.Decides.{nat_tests}
 use Rattle.suri_base.specs.declared.counter.Counter.{Counter}
 use Rattle.suri_base.specs.declared.counter.Counter.TheVariants.{VlanDeep, VlanSmall, Ethertype}
 use Rattle.suri_base.specs.declared.key.Vlans.{Vlans}
-use Rattle.ip_decode.specs.Fields.{number_at}
+use Rattle.header_fields.specs.Fields.{number_at}
 use Rattle.packet_decode.specs.Tags.{Carried, behind_type, inside, is_tag, network_of, packet_of, vlans_of, with_id}
 
 -- these tags were walked past, and what stands behind them leads to the answer for all

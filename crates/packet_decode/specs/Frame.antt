@@ -4,11 +4,9 @@ use Rattle.suri_base.specs.declared.counter.Counter.{Counter}
 use Rattle.suri_base.specs.declared.counter.Counter.TheVariants.{IpSmall, IpVersion, LinkSmall}
 use Rattle.ip_decode.specs.declared.view.IpView.{IpView}
 use Rattle.ip_decode.specs.Extensions.{and_then}
-use Rattle.ip_decode.specs.Fields.{number_at}
+use Rattle.header_fields.specs.Fields.{number_at}
 use Rattle.ip_decode.specs.Ip.{ip_of}
 use Rattle.packet_decode.specs.declared.laws.Inner.{Inner}
-use Rattle.packet_decode.specs.declared.link.TheConstants.{ETHERNET, COOKED, ETHERNET_LEN, ETHERNET_TYPE_AT, COOKED_LEN, COOKED_TYPE_AT}
-use Rattle.packet_decode.specs.declared.tags.TheConstants.{MAX_TAGS}
 use Rattle.packet_decode.specs.Tags.{Carried, behind_type, vlans_of}
 
 -- without a link header: the first four bits are the version
@@ -18,16 +16,17 @@ raw_packet_of frame =
     else (if (slice_index frame 0 / 16 == 4) || (slice_index frame 0 / 16 == 6) then Ok (record { ids = []; version = slice_index frame 0 / 16; packet = frame })
     else Err IpVersion)
 
--- behind a link header of this length, whose EtherType stands at this place
+-- behind a link header of this length, whose EtherType stands at this place; at most three tags, this project's own limit
 abbrev pub headed_packet_of : ℕ → ℕ → List ℕ → Result Carried Counter
 headed_packet_of size at frame =
-    if nat_lt (length frame) size then Err LinkSmall else behind_type MAX_TAGS (number_at 2 at frame) (drop size frame)
+    if nat_lt (length frame) size then Err LinkSmall else behind_type 3 (number_at 2 at frame) (drop size frame)
 
--- what a frame of this link type carries: Ethernet, Linux cooked capture, or raw IP
+-- what a frame of this link type carries: Ethernet (1) has a header of 14 bytes with the EtherType at byte 12 (IEEE 802.3, clause 3.2),
+-- Linux cooked capture (113) one of 16 bytes with the EtherType at byte 14 (tcpdump.org, 'LINKTYPE_LINUX_SLL'), raw IP none
 unfoldable pub carried_by : ℕ → List ℕ → Result Carried Counter
 carried_by link frame =
-    if link == ETHERNET then headed_packet_of ETHERNET_LEN ETHERNET_TYPE_AT frame
-    else (if link == COOKED then headed_packet_of COOKED_LEN COOKED_TYPE_AT frame
+    if link == 1 then headed_packet_of 14 12 frame
+    else (if link == 113 then headed_packet_of 16 14 frame
     else raw_packet_of frame)
 
 -- the view of a packet that ends where the frame does, with places counted from the frame's start

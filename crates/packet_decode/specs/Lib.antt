@@ -1,3 +1,4 @@
 pub mod Frame
 pub mod Layers
+pub mod Spelled
 pub mod Tags

@@ -1,6 +1,7 @@
 //! The way down to the IP payload, which other crates' laws speak of.
 ghost use Rattle.std.specs.Prelude.{◌≡◌, ◌+◌, ◌^◌, ◌<◌, ◌≤◌, ◌⊎◌, IfOk, length};
 ghost use Rattle.packet_decode.specs.Frame.{to_ip_of};
+ghost use Rattle.packet_decode.specs.Spelled.{ReadsFrame};
 ghost use Rattle.packet_decode.specs.Tags.{AreTags};
 
 use crate::link::read_link;
@@ -29,6 +30,8 @@ pub fn to_ip(link: u32, bytes: &[u8]) -> Result<Inner, Counter>
     requires small { length bytes.now < 2 ^ 32 }
     // It is what the frame's headers say, or the first counter that applies.
     ensures inner { result ≡ to_ip_of link bytes.now }
+    // A frame that is spelled from its link header, its tags and an IP packet is read as those tags and what the packet is read as.
+    ensures spelled { ReadsFrame link bytes.now result }
     // There are at most three ids of twelve bits, with 0 in the places that are not used.
     ensures tags { IfOk result (λ inner. AreTags inner.vlans) }
     // The version is 4 or 6, and the addresses of version 4 have 32 bits.

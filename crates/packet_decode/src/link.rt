@@ -3,7 +3,8 @@ ghost use Rattle.std.specs.Prelude.{◌≡◌, ◌≤◌, ◌⊎◌, IfOk, lengt
 ghost use Rattle.packet_decode.specs.Frame.{carried_by, raw_packet_of};
 ghost use Rattle.packet_decode.specs.Tags.{AreTags, network_of};
 
-use crate::tags::{Network, half_at, no_tags, read_tags};
+use crate::tags::{Network, no_tags, read_tags};
+use header_fields::half_at;
 use suri_base::Counter;
 
 // The link types with a header, as the capture file numbers them.

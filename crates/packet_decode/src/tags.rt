@@ -1,9 +1,8 @@
 //! EtherTypes and VLAN tags (IEEE 802.1Q, section 9.5).
 ghost use Rattle.std.specs.Prelude.{◌≡◌, ◌+◌, ◌^◌, ◌<◌, ◌≤◌, ◌⊎◌, IfOk, length};
-ghost use Rattle.ip_decode.specs.Fields.{number_at};
 ghost use Rattle.packet_decode.specs.Tags.{AreTags, behind_type, is_tag, network_of, with_id};
 
-use byteorder::{BigEndian, ByteOrder};
+use header_fields::half_at;
 use suri_base::{Counter, Vlans};
 
 // The EtherTypes that are read: tags of customers and of providers, IPv4 and IPv6.
@@ -39,15 +38,6 @@ pub struct Network {
     pub len: usize,
 }
 
-/// The 16-bit number at a place, in network order.
-#[tactic(auto, unfolding(ip_decode::specs::Fields::number_at))]
-pub fn half_at(bytes: &[u8], at: usize) -> u16
-    requires { at + 2 ≤ length bytes.now }
-    ensures { result ≡ number_at 2 at bytes.now }
-{
-    BigEndian::read_u16(&bytes[at..])
-}
-
 /// No tags.
 pub fn no_tags() -> Vlans
     ensures value { result ≡ record { count = 0; first = 0; second = 0; third = 0 } }
@@ -64,8 +54,8 @@ pub fn no_tags() -> Vlans
 // The tags with one more inside them.
 fn with_tag(vlans: Vlans, id: u16) -> Vlans
     requires tags { AreTags vlans }
-    requires few { vlans.count < MAX_TAGS }
-    requires id { id < IDS }
+    requires few { vlans.count < 3 }
+    requires id { id < 2 ^ 12 }
     ensures value { result ≡ with_id vlans id }
     ensures tags { AreTags result }
 {

@@ -7,22 +7,24 @@ use std::test::Fail;
 use suri_base::{Counter, Vlans};
 
 // The two addresses of an Ethernet header.
-const ADDRESSES: [u8; 12] = [2, 0, 0, 0, 0, 2, 2, 0, 0, 0, 0, 1];
+const ADDRESSES: [u8; 12] = [2, 1, 3, 4, 5, 6, 0x12, 0x11, 0x13, 0x14, 0x15, 0x16];
 
 // A Linux cooked header without its EtherType.
-const COOKED: [u8; 14] = [0, 0, 0, 1, 0, 6, 2, 0, 0, 0, 0, 1, 0, 0];
-
-// UDP without payload from 10.0.0.1 to 10.0.0.2.
-const IPV4: [u8; 28] = [
-    0x45, 0, 0, 28, 0, 0, 0x40, 0, 64, 17, 0, 0, 10, 0, 0, 1, 10, 0, 0, 2, //
-    0x03, 0xe8, 0x07, 0xd0, 0, 8, 0, 0,
+const COOKED: [u8; 14] = [
+    0, 4, 0, 1, 0, 6, 0x12, 0x11, 0x13, 0x14, 0x15, 0x16, 0x17, 0x18,
 ];
 
-// An IPv6 header without its payload, from 2001:db8::1 to 2001:db8::2.
+// UDP without payload from 10.11.12.13 to 192.168.1.254. Every field differs from every other.
+const IPV4: [u8; 28] = [
+    0x45, 0x21, 0, 28, 0x43, 0x65, 0x40, 0, 55, 17, 0xa9, 0xcb, 10, 11, 12, 13, 192, 168, 1, 254, //
+    0x03, 0xe8, 0x07, 0xd0, 0, 8, 0x31, 0x32,
+];
+
+// An IPv6 header without its payload. Every field differs from every other.
 const IPV6: [u8; 40] = [
-    0x60, 0, 0, 0, 0, 0, 17, 64, //
-    0x20, 0x01, 0x0d, 0xb8, 0, 0, 0, 0, 0, 0, 0, 0, 0, 0, 0, 1, //
-    0x20, 0x01, 0x0d, 0xb8, 0, 0, 0, 0, 0, 0, 0, 0, 0, 0, 0, 2,
+    0x6c, 0x12, 0x34, 0x56, 0, 0, 17, 61, //
+    0x20, 0x01, 0x0d, 0xb8, 0x11, 0x12, 0x13, 0x14, 0x15, 0x16, 0x17, 0x18, 0x19, 0x1a, 0x1b, 0x1c, //
+    0x20, 0x02, 0x0e, 0xb9, 0x21, 0x22, 0x23, 0x24, 0x25, 0x26, 0x27, 0x28, 0x29, 0x2a, 0x2b, 0x2c,
 ];
 
 // The number of tags, the outermost id, and protocol, place and length of the payload.
@@ -63,9 +65,9 @@ fn reads_a_tagged_frame(rt: HostRuntime) -> Result<(), Fail> {
         },
         ip: IpView {
             version: 4,
-            src: 0x0a00_0001,
-            dst: 0x0a00_0002,
-            ttl: 64,
+            src: 0x0a0b_0c0d,
+            dst: 0xc0a8_01fe,
+            ttl: 55,
             proto: 17,
             pay_at: 46,
             pay_len: 8,
@@ -124,7 +126,7 @@ fn reads_cut_frames(rt: HostRuntime) -> Result<(), Fail> {
 #[test]
 fn reads_odd_types(rt: HostRuntime) -> Result<(), Fail> {
     let alloc = rt.alloc();
-    let table: [(&[u8], Result<Payload, Counter>); 14] = [
+    let table: [(&[u8], Result<Payload, Counter>); 26] = [
         (&[8, 0], Ok((0, 0, 17, 34, 8))),
         (&[8, 6], Err(Counter::Ethertype)),
         (&[8, 1], Err(Counter::Ethertype)),
@@ -136,6 +138,19 @@ fn reads_odd_types(rt: HostRuntime) -> Result<(), Fail> {
         (&[0x81, 0, 0, 5, 8, 0], Ok((1, 5, 17, 38, 8))),
         (&[0x88, 0xa8, 0xff, 0xff, 8, 0], Ok((1, 4095, 17, 38, 8))),
         (&[0x81, 0, 0xf0, 0, 8, 0], Ok((1, 0, 17, 38, 8))),
+        // The id bit by bit.
+        (&[0x81, 0, 0x00, 0x01, 8, 0], Ok((1, 1, 17, 38, 8))),
+        (&[0x81, 0, 0x00, 0x02, 8, 0], Ok((1, 2, 17, 38, 8))),
+        (&[0x81, 0, 0x00, 0x04, 8, 0], Ok((1, 4, 17, 38, 8))),
+        (&[0x81, 0, 0x00, 0x08, 8, 0], Ok((1, 8, 17, 38, 8))),
+        (&[0x81, 0, 0x00, 0x10, 8, 0], Ok((1, 16, 17, 38, 8))),
+        (&[0x81, 0, 0x00, 0x20, 8, 0], Ok((1, 32, 17, 38, 8))),
+        (&[0x81, 0, 0x00, 0x40, 8, 0], Ok((1, 64, 17, 38, 8))),
+        (&[0x81, 0, 0x00, 0x80, 8, 0], Ok((1, 128, 17, 38, 8))),
+        (&[0x81, 0, 0x01, 0x00, 8, 0], Ok((1, 256, 17, 38, 8))),
+        (&[0x81, 0, 0x02, 0x00, 8, 0], Ok((1, 512, 17, 38, 8))),
+        (&[0x81, 0, 0x04, 0x00, 8, 0], Ok((1, 1024, 17, 38, 8))),
+        (&[0x81, 0, 0x08, 0x00, 8, 0], Ok((1, 2048, 17, 38, 8))),
         (&[0x81, 0, 0, 5, 8, 6], Err(Counter::Ethertype)),
         (
             &[0x81, 0, 0, 1, 0x81, 0, 0, 2, 0x81, 0, 0, 3, 8, 6],

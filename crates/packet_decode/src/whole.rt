@@ -1,9 +1,9 @@
 //! Whole frames, from the link header to the transport header.
 ghost use Rattle.std.specs.Prelude.{◌≡◌, ◌+◌, ◌^◌, ◌<◌, ◌≤◌, ◌⊎◌, ◌↔◌, ◌||◌, IfOk, IsSome, IsTrue, length};
-ghost use Rattle.l4_decode.specs.Transport.{has_ports};
 ghost use Rattle.packet_decode.specs.Layers.{view_of};
+ghost use Rattle.packet_decode.specs.Spelled.{ReadsWhole};
 ghost use Rattle.packet_decode.specs.Tags.{AreTags};
-ghost use Rattle.suri_base.specs.Protocols.{is_icmp};
+ghost use Rattle.suri_base.specs.Protocols.{has_ports, is_icmp};
 
 use crate::laws::to_ip;
 use ip_decode::IpView;
@@ -29,6 +29,8 @@ pub fn decode(link: u32, bytes: &[u8]) -> Result<View, Counter>
     requires small { length bytes.now < 2 ^ 32 }
     // It is what the headers say, or the first counter that applies.
     ensures view { result ≡ view_of link bytes.now }
+    // A frame whose headers are all spelled from fields, with tags, options, extension headers, payload and padding, is read as just those fields.
+    ensures spelled { ReadsWhole link bytes.now result }
     // There are at most three ids of twelve bits, with 0 in the places that are not used.
     ensures tags { IfOk result (λ view. AreTags view.vlans) }
     // The version is 4 or 6, and the addresses of version 4 have 32 bits.

@@ -7,20 +7,22 @@ use std::process::Abort;
 use std::test::Fail;
 use suri_base::{Counter, TcpFacts, Vlans};
 
-// Ethernet addresses, and an IPv4 header from 10.0.0.1 to 10.0.0.2 that states 40 bytes of payload.
-const ADDRESSES: [u8; 12] = [2, 0, 0, 0, 0, 2, 2, 0, 0, 0, 0, 1];
+// Ethernet addresses, and an IPv4 header from 10.11.12.13 to 192.168.1.254 that states 40 bytes of payload.
+// Every field differs from every other.
+const ADDRESSES: [u8; 12] = [2, 1, 3, 4, 5, 6, 0x12, 0x11, 0x13, 0x14, 0x15, 0x16];
 
-const IPV4: [u8; 9] = [0x45, 0, 0, 60, 0, 0, 0x40, 0, 64];
+const IPV4: [u8; 9] = [0x45, 0x21, 0, 60, 0x43, 0x65, 0x40, 0, 55];
 
-const ENDS: [u8; 10] = [0, 0, 10, 0, 0, 1, 10, 0, 0, 2];
+const ENDS: [u8; 10] = [0xa9, 0xcb, 10, 11, 12, 13, 192, 168, 1, 254];
 
 // A SYN from port 1000 to port 2000, whose header has 40 bytes.
 const SYN: [u8; 20] = [
-    0x03, 0xe8, 0x07, 0xd0, 0, 0, 0, 9, 0, 0, 0, 0, 0xa0, 2, 0xff, 0xff, 0, 0, 0, 0,
+    0x03, 0xe8, 0x07, 0xd0, 0x11, 0x12, 0x13, 0x14, 0x21, 0x22, 0x23, 0x24, 0xaf, 0xc2, 0x31, 0x32,
+    0x33, 0x34, 0x35, 0x36,
 ];
 
 // From port 1000 to port 2000, two bytes of payload.
-const UDP: [u8; 10] = [0x03, 0xe8, 0x07, 0xd0, 0, 10, 0, 0, 7, 7];
+const UDP: [u8; 10] = [0x03, 0xe8, 0x07, 0xd0, 0, 10, 0x31, 0x32, 7, 9];
 
 // A frame with these tags and this EtherType, protocol and transport header.
 fn frame(alloc: Global, tags: &[u8], proto: u8, header: &[u8]) -> Result<Vec<u8>, AllocError> {
@@ -48,9 +50,9 @@ fn view(proto: u8, tags: u8, l4: L4View) -> View {
         },
         ip: IpView {
             version: 4,
-            src: 0x0a00_0001,
-            dst: 0x0a00_0002,
-            ttl: 64,
+            src: 0x0a0b_0c0d,
+            dst: 0xc0a8_01fe,
+            ttl: 55,
             proto,
             pay_at: 34 + u32::from(tags),
             pay_len: if proto == 6 { 20 } else { 10 },
@@ -92,9 +94,9 @@ fn reads_whole_frames(rt: HostRuntime) -> Result<(), Fail> {
             sport: 1000,
             dport: 2000,
             tcp: Some(TcpFacts {
-                seq: 9,
-                ack: 0,
-                flags: 2,
+                seq: 0x1112_1314,
+                ack: 0x2122_2324,
+                flags: 0xc2,
             }),
             icmp: None,
             pay_at: 54,

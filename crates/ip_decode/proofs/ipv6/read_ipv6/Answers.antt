@@ -14,4 +14,4 @@ pub returns-clause-view : goal.returns-clause-view
 returns-clause-view c =
     let stop_is : c.min-stop.result ≡ min c.total_len-total.result (length c.args.bytes.now) = omega (arith, c.min-stop.ensures) in
     let long : 40 ≤ c.min-stop.result = omega (arith, c.total_len-total.ensures.long, c.if-captured-lt-HEADER_LEN.false) in
-    rw (c.address_at.ensures, c.address_at-2.ensures) (sym (ipv6_of-ok c.args.bytes.now c.total_len-total.result c.min-stop.result _ c.if-captured-lt-HEADER_LEN.false c.if-bytes-ne6.false c.total_len-total.ensures.value long stop_is c.in_ok-upper.ensures.upper))
+    rw (c.address_at.ensures.value, c.address_at-2.ensures.value) (sym (ipv6_of-ok c.args.bytes.now c.total_len-total.result c.min-stop.result _ c.if-captured-lt-HEADER_LEN.false c.if-bytes-ne6.false c.total_len-total.ensures.value long stop_is c.in_ok-upper.ensures.upper))

@@ -1,6 +1,7 @@
 use Rattle.std.proofs.Common.{Ok, Err, sym}
 use Rattle.std.proofs.lemmas.List.{take_rest}
 use Rattle.std.proofs.lemmas.Result.{err_from_is_err_and}
+use Rattle.packet_decode.proofs.SpelledWhole.{reads_whole}
 use Rattle.packet_decode.proofs.Transports.{view_of-inner, view_of-refused}
 use Rattle.packet_decode.proofs.whole.decode.Goals as goal
 
@@ -17,3 +18,12 @@ returns-in_err-view-clause-view c =
 pub returns-clause-view : goal.returns-clause-view
 returns-clause-view c =
     sym (view_of-inner c.args.link c.args.bytes.now c.in_ok-inner.inner (Ok c.in_ok-view.view) c.in_ok-inner.ensures.inner (simp take_rest at c.in_ok-view.ensures.view))
+
+pub returns-in_err-inner-clause-spelled : goal.returns-in_err-inner-clause-spelled
+returns-in_err-inner-clause-spelled c = reads_whole c.args.link c.args.bytes.now _ (returns-in_err-inner-clause-view c)
+
+pub returns-in_err-view-clause-spelled : goal.returns-in_err-view-clause-spelled
+returns-in_err-view-clause-spelled c = reads_whole c.args.link c.args.bytes.now _ (returns-in_err-view-clause-view c)
+
+pub returns-clause-spelled : goal.returns-clause-spelled
+returns-clause-spelled c = reads_whole c.args.link c.args.bytes.now _ (returns-clause-view c)

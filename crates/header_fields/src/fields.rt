@@ -1,6 +1,6 @@
-//! The fields of a header: numbers in network order (RFC 791, appendix B).
+//! Numbers of two, four and sixteen bytes.
 ghost use Rattle.std.specs.Prelude.{◌≡◌, ◌+◌, ◌≤◌, length};
-ghost use Rattle.ip_decode.specs.Fields.{number_at};
+ghost use Rattle.header_fields.specs.Fields.{IsReadBack, number_at};
 
 use byteorder::{BigEndian, ByteOrder};
 
@@ -8,7 +8,9 @@ use byteorder::{BigEndian, ByteOrder};
 #[tactic(auto, unfolding(crate::specs::Fields::number_at))]
 pub fn half_at(bytes: &[u8], at: usize) -> u16
     requires { at + 2 ≤ length bytes.now }
-    ensures { result ≡ number_at 2 at bytes.now }
+    ensures value { result ≡ number_at 2 at bytes.now }
+    // What a number is spelled as there is read as that number.
+    ensures spelled { IsReadBack 2 at bytes.now result }
 {
     BigEndian::read_u16(&bytes[at..])
 }
@@ -17,7 +19,8 @@ pub fn half_at(bytes: &[u8], at: usize) -> u16
 #[tactic(auto, unfolding(crate::specs::Fields::number_at))]
 pub fn word_at(bytes: &[u8], at: usize) -> u32
     requires { at + 4 ≤ length bytes.now }
-    ensures { result ≡ number_at 4 at bytes.now }
+    ensures value { result ≡ number_at 4 at bytes.now }
+    ensures spelled { IsReadBack 4 at bytes.now result }
 {
     BigEndian::read_u32(&bytes[at..])
 }
@@ -26,7 +29,8 @@ pub fn word_at(bytes: &[u8], at: usize) -> u32
 #[tactic(auto, unfolding(crate::specs::Fields::number_at))]
 pub fn address_at(bytes: &[u8], at: usize) -> u128
     requires { at + 16 ≤ length bytes.now }
-    ensures { result ≡ number_at 16 at bytes.now }
+    ensures value { result ≡ number_at 16 at bytes.now }
+    ensures spelled { IsReadBack 16 at bytes.now result }
 {
     BigEndian::read_u128(&bytes[at..])
 }
