@@ -1,1 +1,4 @@
-pub mod Digests
+pub mod Absorbing
+pub mod Beginning
+pub mod Payloads
+pub mod Settling

@@ -1,0 +1,11 @@
+pub mod Answering
+pub mod Bytes
+pub mod Earlier
+pub mod Examples
+pub mod Offering
+pub mod Places
+pub mod Standing
+pub mod Steps
+pub mod Taking
+pub mod Turns
+pub mod Waiting
