@@ -16,7 +16,7 @@ class Counted(Exception):
 
 
 class Internet(NamedTuple):
-    """What an IP header says. `stated` is the length of the payload as the header has it."""
+    """What an IP header says. `stated` is the length of the payload as the header has it, `hops` the TTL or hop limit."""
 
     version: int
     protocol: int
@@ -24,6 +24,7 @@ class Internet(NamedTuple):
     dest: bytes
     payload: bytes
     stated: int
+    hops: int = 0
 
 
 class Packet(NamedTuple):
@@ -58,7 +59,7 @@ def ipv4(packet):
     demand(len(packet) >= header, "ip_small")
     more_fragments, offset = big_endian(packet[6:8]) & 0x2000, big_endian(packet[6:8]) & 0x1FFF
     demand(not more_fragments and offset == 0, "fragment")
-    return Internet(4, packet[9], packet[12:16], packet[16:20], packet[header:total], total - header)
+    return Internet(4, packet[9], packet[12:16], packet[16:20], packet[header:total], total - header, packet[8])
 
 
 def extension_length(kind, rest):
@@ -80,7 +81,7 @@ def ipv6(packet):
             offset, more_fragments = big_endian(rest[2:4]) // 8, rest[3] & 1
             demand(offset == 0 and not more_fragments, "fragment")
         kind, rest, stated, taken = rest[0], rest[length:], stated - length, taken + 1
-    return Internet(6, kind, packet[8:24], packet[24:40], rest, stated)
+    return Internet(6, kind, packet[8:24], packet[24:40], rest, stated, packet[7])
 
 
 def internet_of(link, frame):

@@ -1,4 +1,5 @@
 """The lines of the text: compact JSON, keys in order of bytes."""
+import hashlib
 import json
 from datetime import datetime, timedelta, timezone
 
@@ -62,30 +63,72 @@ def tcp(packets):
     }
 
 
-def flow_line(run):
-    packets, first = run.packets, run.packets[0]
-    client, server, _ = ends(first)
-    if is_syn_ack(first):
-        client, server = server, client
-    flow = sums(packets, run.reason)
+def named(run, event, source, dest, seed):
+    """What flow lines and netflow lines tell alike, of packets from one end to the other."""
+    first = run.packets[0]
     value = {
-        "event_type": "flow", "proto": PROTOCOLS[first.internet.protocol], "community_id": community_id(first),
-        "flow_id": first.number, "pcap_first": first.number, "pcap_last": packets[-1].number,
-        "src_ip": address(client[0]), "dest_ip": address(server[0]),
-        "timestamp": flow["end"], "flow": flow,
+        "event_type": event, "proto": PROTOCOLS[first.internet.protocol], "community_id": community_id(first, seed),
+        "flow_id": first.number, "src_ip": address(source[0]), "dest_ip": address(dest[0]),
     }
     if first.icmp:
         value |= {"icmp_type": first.icmp[0], "icmp_code": first.icmp[1]}
     else:
-        value |= {"src_port": client[1], "dest_port": server[1]}
-    if is_tcp(first):
-        value["tcp"] = tcp(packets)
+        value |= {"src_port": source[1], "dest_port": dest[1]}
     if first.vlans:
         value["vlan"] = first.vlans
-    verdicts = [verdict(packet) for packet in packets if verdict(packet)]
+    verdicts = [verdict(packet) for packet in run.packets if verdict(packet)]
     if verdicts:
         value["app_proto"] = verdicts[0]
+    return value
+
+
+def client_and_server(run):
+    source, dest, _ = ends(run.packets[0])
+    return (dest, source) if is_syn_ack(run.packets[0]) else (source, dest)
+
+
+def stream(data=b"", stop=0):
+    """One direction of the object `stream`."""
+    return {"bytes": len(data), "sha1": hashlib.sha1(data).hexdigest()} | ({"stop": stop} if stop else {})
+
+
+def flow_line(run, seed=0, streams=None, emergency=False):
+    """The flow line; with the object `stream` where the streams are given, that to the server first."""
+    flow = sums(run.packets, run.reason) | ({"emergency": True} if emergency else {})
+    value = named(run, "flow", *client_and_server(run), seed) | {
+        "pcap_first": run.packets[0].number, "pcap_last": run.packets[-1].number,
+        "timestamp": flow["end"], "flow": flow,
+    }
+    if is_tcp(run.packets[0]):
+        value["tcp"] = tcp(run.packets)
+        if streams:
+            value["stream"] = {"toserver": streams[0], "toclient": streams[1]}
     return line(value)
+
+
+def netflow_line(run, packets, source, dest, seed):
+    """The line of one direction with these packets."""
+    times, hops = [packet.time for packet in packets], [packet.internet.hops for packet in packets]
+    value = named(run, "netflow", source, dest, seed) | {
+        "timestamp": moment(max(times)),
+        "netflow": {
+            "pkts": len(packets), "bytes": sum(packet.length for packet in packets),
+            "start": moment(min(times)), "end": moment(max(times)), "age": (max(times) - min(times)) // SECOND,
+            "min_ttl": min(hops), "max_ttl": max(hops),
+        },
+    }
+    if is_tcp(packets[0]):
+        flags = union(packets)
+        value["tcp"] = {name: True for bit, name in FLAGS.items() if flags & bit} | {"tcp_flags": f"{flags:02x}"}
+    return line(value)
+
+
+def netflow_lines(run, seed=0):
+    """One line for each direction that has a packet, that to the server first."""
+    there, back = there_and_back(run.packets)
+    client, server = client_and_server(run)
+    ways = [(there, client, server), (back, server, client)]
+    return "".join(netflow_line(run, packets, source, dest, seed) for packets, source, dest in ways if packets)
 
 
 def stats_line(capture, counters, runs, clock):
