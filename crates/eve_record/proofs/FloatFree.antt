@@ -1,6 +1,6 @@
 -- No number of a line is a float, so its text is the compact one.
-use Rattle.std.proofs.Common.{◌≡◌, ℕ, Bool, true, false, cond, ◌==◌, ◌||◌, List, [], ◌∷◌, ◌++◌, Option, Some, None, refl, option_map, codes}
-use Rattle.serde_json.specs.Data.{Data, Items, array, item, no_items}
+use Rattle.std.proofs.Common.{◌≡◌, ℕ, Bool, true, false, cond, ◌==◌, List, [], ◌∷◌, ◌++◌, Option, Some, None, refl, option_map, codes}
+use Rattle.serde_json.specs.Data.{Data, array}
 use Rattle.serde_json.specs.Written.{has_float, items_have_float, members_have_float}
 use Rattle.suri_base.specs.declared.app.App.{App}
 use Rattle.suri_base.specs.declared.app.App.TheVariants as app
