@@ -1,5 +1,5 @@
-//! The texts that the tests must find. Those of one UDP packet, of the reused connection and of the empty capture stand in the
-//! description of the formats; all are those of the slow model in tests/model, which shares no code with the program.
+//! The texts that the tests must find: those of the slow model in tests/model, which was made from the formats and
+//! shares no code with the program.
 
 pub(crate) const REUSED: &str =
     "{\"community_id\":\"1:LQU9qZlK+B5F3KDmev6m5PMibrg=\",\"dest_ip\":\"66.35.250.204\",\"dest_port\":80,\"event_type\":\"flow\",\"flow\":{\"age\":0,\"alerted\":false,\"bytes_toclient\":108,\"bytes_toserver\":273,\"end\":\"2023-11-14T22:13:20.006000+0000\",\"pkts_toclient\":2,\"pkts_toserver\":5,\"reason\":\"tcp_reuse\",\"start\":\"2023-11-14T22:13:20.000000+0000\",\"state\":\"closed\"},\"flow_id\":1,\"pcap_first\":1,\"pcap_last\":7,\"proto\":\"TCP\",\"src_ip\":\"128.232.110.120\",\"src_port\":34855,\"stream\":{\"toclient\":{\"bytes\":0,\"sha1\":\"da39a3ee5e6b4b0d3255bfef95601890afd80709\"},\"toserver\":{\"bytes\":3,\"sha1\":\"a9993e364706816aba3e25717850c26c9cd0d89d\"}},\"tcp\":{\"ack\":true,\"fin\":true,\"psh\":true,\"state\":\"closed\",\"syn\":true,\"tcp_flags\":\"1b\",\"tcp_flags_tc\":\"13\",\"tcp_flags_ts\":\"1b\"},\"timestamp\":\"2023-11-14T22:13:20.006000+0000\"}\n";
