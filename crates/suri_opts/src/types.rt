@@ -1,0 +1,61 @@
+//! What the words choose, and why they are refused.
+ghost use Rattle.std.specs.Prelude.{◌≡◌};
+ghost use Rattle.suri_opts.specs.declared.types.WordFault.TheVariants.{NoMemory};
+
+use std::alloc::AllocError;
+
+/// How a run is laid out.
+#[derive(Clone, Copy, Debug, PartialEq, Eq)]
+pub struct Layout {
+    /// How many workers there are, 1 to 64.
+    pub workers: u32,
+    /// The most packets that a worker has in hand at once, 1 to 256.
+    pub batch: u32,
+    /// How many frames a round has, 1 to 65,536.
+    pub round: u32,
+    /// How many buckets the table of flows has, 1 to 4,096; at most `memcap`.
+    pub rows: u32,
+    /// The most flows at a time, 1 to 1,048,576.
+    pub memcap: u32,
+    /// The most nodes of segments at a time, 0 to 1,048,576.
+    pub segments: u32,
+    /// The percentage of `memcap` that has to be free again for an emergency to end, 1 to 100.
+    pub recovery: u32,
+    /// How many bytes of each direction of a TCP flow are reassembled, 0 to 1,073,741,824.
+    pub depth: u32,
+}
+
+/// What the words choose.
+#[derive(Clone, Copy, Debug, PartialEq, Eq)]
+pub struct Options {
+    pub layout: Layout,
+    /// How many flow objects are made before the run, at most `memcap`.
+    pub prealloc: u32,
+    /// The seed of the Community IDs.
+    pub seed: u16,
+    /// Whether netflow lines are written.
+    pub netflow: bool,
+    /// Whether the histories of the run are written. No word asks for them yet.
+    pub audit: bool,
+    /// The seed of a generated capture and its number of frames. No word asks for one yet.
+    pub generate: Option<(u64, u32)>,
+}
+
+/// Why words are refused.
+#[derive(Clone, Copy, Debug, PartialEq, Eq)]
+pub enum WordFault {
+    /// They are no command line of this program; a word that asks for help or for the version is none either.
+    Refused,
+    /// There are more buckets than flows may be.
+    Rows { rows: u32, memcap: u32 },
+    /// There was no memory to read them.
+    NoMemory,
+}
+
+impl From<AllocError> for WordFault {
+    ghost from_gives = { λ _ e. e ≡ NoMemory };
+
+    fn from(_: AllocError) -> WordFault {
+        WordFault::NoMemory
+    }
+}
