@@ -5,8 +5,7 @@ use Rattle.std.specs.List.{concat}
 use Rattle.pcap_read.specs.declared.header.Header.{Header}
 use Rattle.pcap_read.specs.declared.fault.PcapFault.{PcapFault}
 use Rattle.pcap_read.specs.Records.{IsWhole, AreWhole, captured, ends_in, IsTail}
-use Rattle.pcap_read.specs.File.{IsSpelled, CaptureFile, Concludes, Reads, bad_header, whole, view, Tells, Agrees}
-use Rattle.pcap_read.specs.declared.capture.Frames.{Frames}
+use Rattle.pcap_read.specs.File.{IsSpelled, CaptureFile, Concludes, Reads, bad_header, whole, Tells, Agrees}
 use Rattle.pcap_read.proofs.Words.{captured-append}
 
 pub record SameSplit (rs qs : List (List ℕ)) (t u : List ℕ) : Type 0 where
@@ -71,6 +70,6 @@ reads_once bytes _ _ (whole h rs t a s c) (whole i qs u b z d) =
     both_whole bytes h i rs qs t u a b same s z c d
 
 -- a call that tells what the file holds agrees with whatever the file holds
-pub agrees : (bytes : List ℕ) (r : Result Frames PcapFault) (answer : Result CaptureFile PcapFault) → Tells bytes r → Reads bytes answer → Agrees r answer
-agrees bytes (Ok f) answer told holds = reads_once bytes answer (Ok (view f)) holds told
+pub agrees : (bytes : List ℕ) (r : Result CaptureFile PcapFault) (answer : Result CaptureFile PcapFault) → Tells bytes r → Reads bytes answer → Agrees r answer
+agrees bytes (Ok f) answer told holds = reads_once bytes answer (Ok f) holds told
 agrees bytes (Err e) answer told holds = elim told [ inl memory ↦ inl memory | inr fault ↦ inr (reads_once bytes answer (Err e) holds fault) ]

@@ -1,11 +1,8 @@
 -- A capture file (the pcap format, version 2.4): a header, whole records end to end, and a tail that begins with no whole record.
-use Rattle.std.specs.Prelude.{◌≡◌, ℕ, ◌+◌, ◌^◌, ◌<◌, ◌≤◌, List, [], ◌∷◌, ◌++◌, length, drop, Result, Ok, Err, MatchResult, ◌⊎◌}
+use Rattle.std.specs.Prelude.{◌≡◌, ℕ, ◌≤◌, List, ◌++◌, length, drop, Result, Ok, Err, MatchResult, ◌⊎◌, All}
 use Rattle.std.specs.List.{concat}
 use Rattle.suri_base.specs.declared.frame.Frame.{Frame}
-use Rattle.pcap_read.specs.declared.capture.Frames.{Frames}
 use Rattle.pcap_read.specs.declared.header.Header.{Header}
-use Rattle.pcap_read.specs.declared.header.TheConstants.{HEADER_LEN}
-use Rattle.pcap_read.specs.declared.records.TheConstants.{MAX_FRAMES, MAX_CAPTURED}
 use Rattle.pcap_read.specs.declared.fault.PcapFault.{PcapFault}
 use Rattle.pcap_read.specs.declared.fault.PcapFault.TheVariants.{NoMemory}
 use Rattle.pcap_read.specs.Header.{header_of}
@@ -15,9 +12,9 @@ use Rattle.pcap_read.specs.Records.{AreWhole, IsTail, ends_in, frames_of}
 pub record IsSpelled (h : Header) (records : List (List ℕ)) (tail bytes : List ℕ) : Type 0 where
   pub header : header_of bytes ≡ Ok h
   pub records_whole : AreWhole h records
-  pub few : length records ≤ MAX_FRAMES
+  pub few : length records ≤ 4194304
   pub tail_cut : IsTail h (length records) tail
-  pub joined : drop HEADER_LEN bytes ≡ concat records ++ tail
+  pub joined : drop 24 bytes ≡ concat records ++ tail
 
 -- what a file holds: its link type, its frames, and how many bytes are cut off
 pub record CaptureFile : Type 0 where
@@ -27,7 +24,7 @@ pub record CaptureFile : Type 0 where
 
 -- a file with these records, of which so many bytes are cut off
 abbrev pub file_of : Header → List (List ℕ) → ℕ → CaptureFile
-file_of h records cut = record { link = h.link; frames = frames_of h 0 HEADER_LEN records; cut_bytes = cut }
+file_of h records cut = record { link = h.link; frames = frames_of h 0 24 records; cut_bytes = cut }
 
 -- with the records known, the tail decides what the file holds
 abbrev pub Concludes : Header → List (List ℕ) → Result ℕ PcapFault → Result CaptureFile PcapFault → Type 0
@@ -40,20 +37,14 @@ pub data Reads (bytes : List ℕ) : Result CaptureFile PcapFault → Type 0 wher
   whole : (h : Header) (records : List (List ℕ)) (tail : List ℕ) (answer : Result CaptureFile PcapFault) → IsSpelled h records tail bytes
       → Concludes h records (ends_in h (length records) tail) answer → Reads bytes answer
 
--- the frames that the code keeps, as what the file holds
-abbrev pub view : Frames → CaptureFile
-view f = record { link = f.link; frames = f.list.items; cut_bytes = f.cut_bytes }
-
 -- the answer is what the file holds, or its first fault, unless memory ran out
-abbrev pub Tells : List ℕ → Result Frames PcapFault → Type 0
-Tells bytes result = MatchResult result (λ f. Reads bytes (Ok (view f))) (λ e. (e ≡ NoMemory) ⊎ Reads bytes (Err e))
+abbrev pub Tells : List ℕ → Result CaptureFile PcapFault → Type 0
+Tells bytes result = MatchResult result (λ f. Reads bytes (Ok f)) (λ e. (e ≡ NoMemory) ⊎ Reads bytes (Err e))
 
 -- the answer is this one, unless memory ran out
-abbrev pub Agrees : Result Frames PcapFault → Result CaptureFile PcapFault → Type 0
-Agrees result answer = MatchResult result (λ f. answer ≡ Ok (view f)) (λ e. (e ≡ NoMemory) ⊎ (answer ≡ Err e))
+abbrev pub Agrees : Result CaptureFile PcapFault → Result CaptureFile PcapFault → Type 0
+Agrees result answer = MatchResult result (λ f. answer ≡ Ok f) (λ e. (e ≡ NoMemory) ⊎ (answer ≡ Err e))
 
--- the frames are numbered on from so many, their times are small, and they lie inside so many bytes
-abbrev pub AreFrames : ℕ → ℕ → List Frame → Type 0
-AreFrames limit before [] = Unit {0}
-AreFrames limit before (f ∷ fs) =
-    (f.no ≡ before + 1) × (f.time < 2 ^ 63) × (f.at + f.len ≤ limit) × (f.len ≤ MAX_CAPTURED) × AreFrames limit (before + 1) fs
+-- no frame is longer than a record may be
+abbrev pub AreShort : List Frame → Type 0
+AreShort frames = All (λ f. f.len ≤ 262144) frames

@@ -1,8 +1,9 @@
 //! From the bytes of a file to its frames.
-ghost use Rattle.std.specs.Prelude.{◌≡◌, ◌^◌, ◌≤◌, IfOk, Result, length, vec_len};
-ghost use Rattle.pcap_read.specs.File.{Agrees, AreFrames, CaptureFile, Reads, Tells};
+ghost use Rattle.std.specs.Prelude.{◌^◌, ◌≤◌, IfOk, Result, length};
+ghost use Rattle.pcap_read.specs.File.{Agrees, AreShort, CaptureFile, Reads, Tells};
 ghost use Rattle.pcap_read.specs.Header.{IsLink};
 ghost use Rattle.pcap_read.specs.declared.fault.PcapFault.{PcapFault};
+ghost use Rattle.suri_base.specs.Frames.{AreNumbered};
 
 use crate::capture::Frames;
 use crate::fault::PcapFault;
@@ -31,9 +32,11 @@ pub fn frames(alloc: Global, bytes: &[u8]) -> Result<Frames, PcapFault>
     // The link type is one of the three that are read.
     ensures link { IfOk result (λ f. IsLink f.link) }
     // There are not more than the most.
-    ensures few { IfOk result (λ f. vec_len f.list ≤ 4194304) }
+    ensures few { IfOk result (λ f. length f.frames ≤ 4194304) }
     // The frames are numbered from 1, their times are below 2^63, and they lie inside the bytes.
-    ensures inside { IfOk result (λ f. AreFrames (length bytes.now) 0 f.list.items) }
+    ensures inside { IfOk result (λ f. AreNumbered (length bytes.now) 0 f.frames) }
+    // None is longer than a record may be.
+    ensures short { IfOk result (λ f. AreShort f.frames) }
 {
     let header = read_header(bytes)?;
     read_records(alloc, header, bytes)

@@ -1,8 +1,9 @@
 //! The records behind the header of a capture file.
-ghost use Rattle.std.specs.Prelude.{◌≡◌, ◌^◌, ◌<◌, ◌≤◌, IfOk, Ok, Result, length, vec_len};
-ghost use Rattle.pcap_read.specs.File.{AreFrames, Tells};
+ghost use Rattle.std.specs.Prelude.{◌≡◌, ◌^◌, ◌<◌, ◌≤◌, IfOk, Ok, Result, length};
+ghost use Rattle.pcap_read.specs.File.{AreShort, Tells};
 ghost use Rattle.pcap_read.specs.Header.{IsRead, header_of};
 ghost use Rattle.pcap_read.specs.Records.{frame_of};
+ghost use Rattle.suri_base.specs.Frames.{AreNumbered};
 
 use crate::capture::Frames;
 use crate::fault::PcapFault;
@@ -29,7 +30,7 @@ const ORIGINAL_AT: usize = 12;
 
 // The frame of a record, which begins at a place of the file after so many others.
 fn frame_at(header: Header, before: u32, at: u32, bytes: &[u8]) -> Frame
-    requires whole { RECORD_HEADER_LEN ≤ length bytes.now }
+    requires whole { 16 ≤ length bytes.now }
     requires unit { header.unit ≤ 1000 }
     requires few { before < 2 ^ 31 }
     requires near { at < 2 ^ 31 }
@@ -53,8 +54,9 @@ pub fn read_records(alloc: Global, header: Header, bytes: &[u8]) -> Result<Frame
     requires small { length bytes.now ≤ 2 ^ 30 }
     ensures told { Tells bytes.now result }
     ensures link { IfOk result (λ f. f.link ≡ header.link) }
-    ensures few { IfOk result (λ f. vec_len f.list ≤ MAX_FRAMES) }
-    ensures inside { IfOk result (λ f. AreFrames (length bytes.now) 0 f.list.items) }
+    ensures few { IfOk result (λ f. length f.frames ≤ 4194304) }
+    ensures inside { IfOk result (λ f. AreNumbered (length bytes.now) 0 f.frames) }
+    ensures short { IfOk result (λ f. AreShort f.frames) }
 {
     let link = header.link;
     let mut list = Vec::new(alloc);

@@ -1,10 +1,11 @@
--- What contracts see of a source and a sink in memory.
-use Rattle.std.specs.Prelude.{ℕ, ◌+◌, ◌-◌, ◌^◌, min, List, ◌++◌, drop, take}
+-- What contracts see of sources and a sink in memory.
+use Rattle.std.specs.Prelude.{ℕ, ◌-◌, List, ◌++◌, drop, take}
+use Rattle.suri_outside.specs.Faults.{risen}
 
 -- a source: the bytes left, the most that one call gives, the calls that fail, and the calls and the faults so far
 pub record SourceState : Type 0 where
   pub left : List ℕ
-  pub piece : ℕ
+  pub most : ℕ
   pub failing : List ℕ
   pub calls : ℕ
   pub faults : ℕ
@@ -13,22 +14,18 @@ pub record SourceState : Type 0 where
 pub record SinkState : Type 0 where
   pub bytes : List ℕ
   pub room : ℕ
-  pub piece : ℕ
+  pub most : ℕ
   pub failing : List ℕ
   pub calls : ℕ
   pub faults : ℕ
-
--- one more than the count, which stands still at its type's end
-abbrev pub counted : ℕ → ℕ
-counted count = min (count + 1) (2 ^ 64 - 1)
 
 -- the source after a call that gave so many bytes
 abbrev pub after_gift : SourceState → ℕ → SourceState
 after_gift s n = record {
   left = drop n s.left;
-  piece = s.piece;
+  most = s.most;
   failing = s.failing;
-  calls = counted s.calls;
+  calls = risen s.calls;
   faults = s.faults;
 }
 
@@ -36,20 +33,20 @@ after_gift s n = record {
 abbrev pub after_failed_read : SourceState → SourceState
 after_failed_read s = record {
   left = s.left;
-  piece = s.piece;
+  most = s.most;
   failing = s.failing;
-  calls = counted s.calls;
-  faults = counted s.faults;
+  calls = risen s.calls;
+  faults = risen s.faults;
 }
 
--- the sink after a call that took so many bytes of the piece
+-- the sink after a call that took so many of the bytes
 abbrev pub after_taking : SinkState → ℕ → List ℕ → SinkState
-after_taking s n piece = record {
-  bytes = s.bytes ++ take n piece;
+after_taking s n bytes = record {
+  bytes = s.bytes ++ take n bytes;
   room = s.room;
-  piece = s.piece;
+  most = s.most;
   failing = s.failing;
-  calls = counted s.calls;
+  calls = risen s.calls;
   faults = s.faults;
 }
 
@@ -58,8 +55,17 @@ abbrev pub after_failed_write : SinkState → SinkState
 after_failed_write s = record {
   bytes = s.bytes;
   room = s.room;
-  piece = s.piece;
+  most = s.most;
   failing = s.failing;
-  calls = counted s.calls;
-  faults = counted s.faults;
+  calls = risen s.calls;
+  faults = risen s.faults;
 }
+
+-- a source of one byte again and again: the byte, and how many are left
+pub record RepeatState : Type 0 where
+  pub byte : ℕ
+  pub left : ℕ
+
+-- that source after a call that gave so many bytes
+abbrev pub after_repeats : RepeatState → ℕ → RepeatState
+after_repeats s n = record { byte = s.byte; left = s.left - n }

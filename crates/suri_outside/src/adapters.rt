@@ -11,10 +11,11 @@ ghost use Rattle.std.specs.Prelude.{
   IfOk,
   MatchResult,
   None,
-  OnOk,
+  OnErr,
   Ok,
 };
 ghost use Rattle.suri_outside.specs.Adapters.{reader_of, read_faults, writer_of, write_faults};
+ghost use Rattle.suri_outside.specs.Bytes.{TakesFront};
 ghost use Rattle.suri_outside.specs.Faults.{HasCause, Rose};
 
 use crate::{Failed, Sink, Source};
@@ -52,7 +53,6 @@ impl<R: Read> Source for StdSource<R> {
         // What the reader gave, where it tells its own bytes.
         ensures given { ReadConsumes (R.remaining (reader_of self.old)) (R.remaining (reader_of self.new))
             result into.new }
-        ensures quiet { OnOk result (read_faults self.new ≡ read_faults self.old) }
     {
         match self.inner.read(into) {
             Ok(count) => Ok(count),
@@ -99,24 +99,25 @@ impl<W: Write> Sink for StdSink<W> {
 
     ghost faults = { write_faults };
 
-    /// One write, and a flush. A failure is: a write that fails, a write that takes nothing of a
-    /// piece that isn't empty, and a flush that fails. After a failed flush the writer may hold
-    /// bytes of the piece.
-    fn write(&mut self, piece: &[u8]) -> Result<usize, Failed>
-        ensures bound { WritesAtMost result piece.now }
-        ensures bytes { WriteAppends None None result piece.now }
+    /// One write, and a flush. A failure is: a write that fails, a write that takes nothing of bytes
+    /// that aren't none, and a flush that fails. After a failed flush the writer may hold a front of
+    /// the bytes, and no byte twice.
+    fn write(&mut self, bytes: &[u8]) -> Result<usize, Failed>
+        ensures bound { WritesAtMost result bytes.now }
+        ensures bytes { WriteAppends None None result bytes.now }
         ensures cause { HasCause (write_faults self.old) (write_faults self.new) result }
-        ensures idle { result ≡ Ok 0 → 0 < length piece.now
+        ensures idle { result ≡ Ok 0 → 0 < length bytes.now
             → Rose (write_faults self.old) (write_faults self.new) }
         // What the writer took, where it tells its own bytes.
         ensures passed { IfOk result (λ n. Appends (W.contents (writer_of self.old))
-            (W.contents (writer_of self.new)) (take n piece.now)) }
-        ensures some { IfOk result (λ n. 0 < length piece.now → 0 < n) }
-        ensures quiet { OnOk result (write_faults self.new ≡ write_faults self.old) }
+            (W.contents (writer_of self.new)) (take n bytes.now)) }
+        ensures some { IfOk result (λ n. 0 < length bytes.now → 0 < n) }
+        ensures front { OnErr result (TakesFront (W.contents (writer_of self.old))
+            (W.contents (writer_of self.new)) bytes.now) }
     {
-        match self.inner.write(piece) {
+        match self.inner.write(bytes) {
             Ok(count) => {
-                if count == 0 && !piece.is_empty() {
+                if count == 0 && !bytes.is_empty() {
                     return Err(self.fail());
                 }
                 match self.inner.flush() {

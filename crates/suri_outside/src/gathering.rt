@@ -1,15 +1,12 @@
-//! Texts that are gathered into large pieces before they are written.
+//! Texts that are gathered into large blocks before they are written.
 ghost use Rattle.std.specs.Io.KnownBytes.{Appends};
-ghost use Rattle.std.specs.Prelude.{◌≡◌, ◌+◌, ◌<◌, ◌≤◌, ◌++◌, [], Err, length, OnErr, OnOk};
+ghost use Rattle.std.specs.Prelude.{◌≡◌, ◌≢◌, ◌+◌, ◌<◌, ◌≤◌, ◌++◌, [], Err, length, OnErr, OnOk};
 ghost use Rattle.suri_outside.specs.Bytes.{TakesAllBut, TakesFront};
 ghost use Rattle.suri_outside.specs.Faults.{HasCause, Rose};
 
-use crate::{Failed, Sink, write_whole};
+use crate::{BLOCK, Failed, Sink, write_whole};
 use std::alloc::{AllocError, Global};
 use std::marker::Model;
-
-/// How many bytes are gathered, at least, before they are written: 64 KiB.
-pub const PIECE: usize = 65536;
 
 /// Why a text was not taken into what waits, or not written.
 #[derive(Clone, Copy, Debug, PartialEq, Eq)]
@@ -40,9 +37,9 @@ impl From<Failed> for Unwritten {
     }
 }
 
-/// Texts that wait to be written in pieces of at least 64 KiB.
+/// Texts that wait to be written in blocks of at least 64 KiB.
 ///
-/// Contracts see it as the bytes that wait. Its room is kept from one piece to the next.
+/// Contracts see it as the bytes that wait. Its room is kept from one block to the next.
 #[derive(Drop)]
 pub struct Gathered {
     waiting: Vec<u8>,
@@ -66,7 +63,7 @@ impl Gathered {
         }
     }
 
-    /// Puts a text behind what waits, and writes all that waits once it is `PIECE` bytes long.
+    /// Puts a text behind what waits, and writes all that waits once it is 64 KiB long.
     ///
     /// `Failed` comes only where the sink's count of faults rose; a front of what waited and the
     /// text was taken, and nothing waits any more. After `NoMemory` nothing has changed.
@@ -77,17 +74,18 @@ impl Gathered {
             (self.old ++ text.now)) }
         ensures failed { result ≡ Err Unwritten.Failed → Rose (K.faults sink.old) (K.faults sink.new) }
         ensures later { K.faults sink.old ≤ K.faults sink.new }
+        ensures quiet { result ≢ Err Unwritten.Failed → K.faults sink.new ≡ K.faults sink.old }
 
-        // Nothing is written in smaller pieces, and no more than that waits.
-        ensures gathers { length self.old + length text.now < PIECE → sink.new ≡ sink.old }
-        ensures short { OnOk result (length self.new < PIECE) }
+        // Nothing is written in smaller blocks, and no more than that waits.
+        ensures gathers { length self.old + length text.now < 65536 → sink.new ≡ sink.old }
+        ensures short { OnOk result (length self.new < 65536) }
 
         ensures given_up { result ≡ Err Unwritten.Failed → self.new ≡ [] }
         ensures kept { result ≡ Err Unwritten.NoMemory
             → (self.new ≡ self.old) × (sink.new ≡ sink.old) }
     {
         self.waiting.extend_from_slice(text)?;
-        if self.waiting.len() < PIECE {
+        if self.waiting.len() < BLOCK {
             return Ok(());
         }
         let written = write_whole(sink, &self.waiting);

@@ -6,19 +6,23 @@
 #![tactic(auto)]
 
 mod adapters;
+mod block;
 mod gates;
 mod gathering;
 mod memory;
 mod reading;
+mod repeat;
 #[cfg(test)]
 mod tests;
 mod traits;
 mod writing;
 
 pub use adapters::{StdSink, StdSource};
+pub use block::BLOCK;
 pub use gates::{Gate, OpenGate};
-pub use gathering::{Gathered, PIECE, Unwritten};
+pub use gathering::{Gathered, Unwritten};
 pub use memory::{MemSink, MemSource};
-pub use reading::{CHUNK, Unread, read_whole};
+pub use reading::{Unread, read_whole};
+pub use repeat::RepeatSource;
 pub use traits::{Failed, Sink, Source};
 pub use writing::write_whole;

@@ -18,13 +18,12 @@ ghost use Rattle.std.specs.Prelude.{
   Ok,
   Some,
 };
-ghost use Rattle.suri_outside.specs.Faults.{HasCause, Rose};
+ghost use Rattle.suri_outside.specs.Faults.{HasCause, Rose, risen};
 ghost use Rattle.suri_outside.specs.Memory.{
   after_failed_read,
   after_failed_write,
   after_gift,
   after_taking,
-  counted,
 };
 
 use crate::{Failed, Sink, Source};
@@ -32,7 +31,7 @@ use std::alloc::Global;
 use std::marker::Model;
 use suri_base::NoMemory;
 
-/// Bytes in memory, given in pieces. It tells the bytes that are left.
+/// Bytes in memory, given in parts. It tells the bytes that are left.
 ///
 /// Its reads are numbered from 1, and exactly those listed fail; the count of faults rises there
 /// alone.
@@ -40,7 +39,7 @@ use suri_base::NoMemory;
 pub struct MemSource {
     bytes: Vec<u8>,
     at: usize,
-    piece: usize,
+    most: usize,
     failing: Vec<u64>,
     calls: u64,
     faults: u64,
@@ -54,23 +53,23 @@ impl Model for MemSource {
 
     ghost view = { λ s. record {
       left = drop s.at s.bytes.items;
-      piece = s.piece;
+      most = s.most;
       failing = s.failing.items;
       calls = s.calls;
       faults = s.faults;
     } };
 
-    ghost invariant = { λ s. (s.at ≤ vec_len s.bytes) × (1 ≤ s.piece) };
+    ghost invariant = { λ s. (s.at ≤ vec_len s.bytes) × (1 ≤ s.most) };
 }
 
 impl MemSource {
-    /// A source of `bytes` that gives at most `piece` bytes, at least 1, at a read, and fails at
+    /// A source of `bytes` that gives at most `most` bytes, at least 1, at a read, and fails at
     /// the reads whose numbers, counted from 1, are in `failing`.
-    pub fn new(bytes: Vec<u8>, piece: usize, failing: Vec<u64>) -> MemSource
-        requires { 1 ≤ piece }
+    pub fn new(bytes: Vec<u8>, most: usize, failing: Vec<u64>) -> MemSource
+        requires { 1 ≤ most }
         ensures { result ≡ record {
           left = bytes.items;
-          piece = piece;
+          most = most;
           failing = failing.items;
           calls = 0;
           faults = 0;
@@ -79,7 +78,7 @@ impl MemSource {
         MemSource {
             bytes,
             at: 0,
-            piece,
+            most,
             failing,
             calls: 0,
             faults: 0,
@@ -92,15 +91,15 @@ impl Source for MemSource {
 
     ghost faults = { λ s. s.faults };
 
-    /// Gives the least of the source's `piece`, the buffer's length and the bytes left.
+    /// Gives the least of the source's `most`, the buffer's length and the bytes left.
     fn read(&mut self, into: &mut [u8]) -> Result<usize, Failed>
         ensures bound { ReadsAtMost result into.new }
         ensures bytes { ReadConsumes (Some self.old.left) (Some self.new.left) result into.new }
         ensures cause { HasCause self.old.faults self.new.faults result }
 
-        ensures fails { IsErr result ↔ Contains self.old.failing (counted self.old.calls) }
+        ensures fails { IsErr result ↔ Contains self.old.failing (risen self.old.calls) }
         ensures gives { IfOk result
-            (λ n. n ≡ min self.old.piece (min (length into.old) (length self.old.left))) }
+            (λ n. n ≡ min self.old.most (min (length into.old) (length self.old.left))) }
         ensures after_ok { IfOk result (λ n. self.new ≡ after_gift self.old n) }
         ensures after_err { OnErr result (self.new ≡ after_failed_read self.old) }
     {
@@ -111,7 +110,7 @@ impl Source for MemSource {
             return Err(Failed);
         }
         let left = &self.bytes[self.at..];
-        let count = self.piece.min(into.len().min(left.len()));
+        let count = self.most.min(into.len().min(left.len()));
         into[..count].copy_from_slice(&left[..count]);
         self.at += count;
         Ok(count)
@@ -121,12 +120,12 @@ impl Source for MemSource {
 /// Room in memory for bytes that are written. It tells the bytes taken.
 ///
 /// Its writes are numbered from 1. A write fails, and the count of faults rises, exactly at those
-/// listed, and at a piece that isn't empty once the room is full.
+/// listed, and at bytes that aren't none once the room is full.
 #[derive(Drop)]
 pub struct MemSink {
     bytes: Vec<u8>,
     room: usize,
-    piece: usize,
+    most: usize,
     failing: Vec<u64>,
     calls: u64,
     faults: u64,
@@ -141,30 +140,30 @@ impl Model for MemSink {
     ghost view = { λ s. record {
       bytes = s.bytes.items;
       room = s.room;
-      piece = s.piece;
+      most = s.most;
       failing = s.failing.items;
       calls = s.calls;
       faults = s.faults;
     } };
 
-    ghost invariant = { λ s. (vec_len s.bytes ≤ s.room) × (s.room ≤ vec_capacity s.bytes) × (1 ≤ s.piece) };
+    ghost invariant = { λ s. (vec_len s.bytes ≤ s.room) × (s.room ≤ vec_capacity s.bytes) × (1 ≤ s.most) };
 }
 
 impl MemSink {
-    /// A sink with room for `room` bytes that takes at most `piece` bytes, at least 1, at a write,
+    /// A sink with room for `room` bytes that takes at most `most` bytes, at least 1, at a write,
     /// and fails at the writes whose numbers, counted from 1, are in `failing`. All memory of the
     /// sink is taken here: `NoMemory` means that the room could not be had.
     pub fn new(
         alloc: Global,
         room: usize,
-        piece: usize,
+        most: usize,
         failing: Vec<u64>,
     ) -> Result<MemSink, NoMemory>
-        requires { 1 ≤ piece }
+        requires { 1 ≤ most }
         ensures { IfOk result (λ s. s ≡ record {
           bytes = [];
           room = room;
-          piece = piece;
+          most = most;
           failing = failing.items;
           calls = 0;
           faults = 0;
@@ -174,7 +173,7 @@ impl MemSink {
         Ok(MemSink {
             bytes,
             room,
-            piece,
+            most,
             failing,
             calls: 0,
             faults: 0,
@@ -195,29 +194,29 @@ impl Sink for MemSink {
 
     ghost faults = { λ s. s.faults };
 
-    /// Takes the least of the sink's `piece`, the length of what is handed in and the room left.
-    fn write(&mut self, piece: &[u8]) -> Result<usize, Failed>
-        ensures bound { WritesAtMost result piece.now }
-        ensures bytes { WriteAppends (Some self.old.bytes) (Some self.new.bytes) result piece.now }
+    /// Takes the least of the sink's `most`, the length of what is handed in and the room left.
+    fn write(&mut self, bytes: &[u8]) -> Result<usize, Failed>
+        ensures bound { WritesAtMost result bytes.now }
+        ensures bytes { WriteAppends (Some self.old.bytes) (Some self.new.bytes) result bytes.now }
         ensures cause { HasCause self.old.faults self.new.faults result }
-        ensures idle { result ≡ Ok 0 → 0 < length piece.now → Rose self.old.faults self.new.faults }
+        ensures idle { result ≡ Ok 0 → 0 < length bytes.now → Rose self.old.faults self.new.faults }
 
-        ensures fails { IsErr result ↔ (Contains self.old.failing (counted self.old.calls)
-            ⊎ ((0 < length piece.now) × (length self.old.bytes ≡ self.old.room))) }
+        ensures fails { IsErr result ↔ (Contains self.old.failing (risen self.old.calls)
+            ⊎ ((0 < length bytes.now) × (length self.old.bytes ≡ self.old.room))) }
         ensures takes { IfOk result
-            (λ n. n ≡ min self.old.piece (min (length piece.now) (self.old.room - length self.old.bytes))) }
-        ensures after_ok { IfOk result (λ n. self.new ≡ after_taking self.old n piece.now) }
+            (λ n. n ≡ min self.old.most (min (length bytes.now) (self.old.room - length self.old.bytes))) }
+        ensures after_ok { IfOk result (λ n. self.new ≡ after_taking self.old n bytes.now) }
         ensures after_err { OnErr result (self.new ≡ after_failed_write self.old) }
     {
         self.calls = self.calls.saturating_add(1);
         let call = self.calls;
         let room = self.room - self.bytes.len();
-        if self.failing.contains(&call) || (room == 0 && !piece.is_empty()) {
+        if self.failing.contains(&call) || (room == 0 && !bytes.is_empty()) {
             self.faults = self.faults.saturating_add(1);
             return Err(Failed);
         }
-        let count = self.piece.min(piece.len().min(room));
-        match self.bytes.extend_from_slice(&piece[..count]) {
+        let count = self.most.min(bytes.len().min(room));
+        match self.bytes.extend_from_slice(&bytes[..count]) {
             Ok(()) => Ok(count),
             Err(_) => unreachable!(),
         }

@@ -1,14 +1,11 @@
 //! Reading a source to its end.
 ghost use Rattle.std.specs.Io.KnownBytes.{IsAtEnd};
-ghost use Rattle.std.specs.Prelude.{◌≡◌, ◌+◌, ◌<◌, ◌≤◌, Err, length, vec_len, IfOk, IfSome, OnOk};
+ghost use Rattle.std.specs.Prelude.{◌≡◌, ◌≢◌, ◌+◌, ◌<◌, ◌≤◌, Err, length, vec_len, IfOk, IfSome, OnOk};
 ghost use Rattle.suri_outside.specs.Bytes.{GivesAtMost};
 ghost use Rattle.suri_outside.specs.Faults.{Rose};
 
-use crate::{Failed, Source};
+use crate::{BLOCK, Failed, Source};
 use std::alloc::{AllocError, Global};
-
-/// How many bytes one read of `read_whole` asks for.
-pub const CHUNK: usize = 65536;
 
 /// Why a source was not read to its end.
 #[derive(Clone, Copy, Debug, PartialEq, Eq)]
@@ -36,7 +33,7 @@ impl From<AllocError> for Unread {
 ///
 /// `Failed` comes only where the source's count of faults rose, `Above` only where more than
 /// `limit` bytes were left, where the source tells them, and `NoMemory` at any point. After an
-/// error the bytes that had come are gone from the source, at most `limit + CHUNK` of them.
+/// error the bytes that had come are gone from the source, at most 64 KiB above the limit.
 pub fn read_whole<S: Source>(alloc: Global, source: &mut S, limit: usize) -> Result<Vec<u8>, Unread>
     ensures whole { IfOk result (λ v. IfSome (S.left source.old) (λ bytes. v.items ≡ bytes)) }
     ensures ended { OnOk result (IsAtEnd (S.left source.new)) }
@@ -48,9 +45,11 @@ pub fn read_whole<S: Source>(alloc: Global, source: &mut S, limit: usize) -> Res
 
     // After each answer, an error too.
     ensures later { S.faults source.old ≤ S.faults source.new }
-    ensures stops { GivesAtMost (S.left source.old) (S.left source.new) (limit + CHUNK) }
+    // No read is tried again.
+    ensures quiet { result ≢ Err Unread.Failed → S.faults source.new ≡ S.faults source.old }
+    ensures stops { GivesAtMost (S.left source.old) (S.left source.new) (limit + 65536) }
 {
-    let mut buffer = zeros(alloc, CHUNK)?;
+    let mut buffer = zeros(alloc, BLOCK)?;
     read_through(alloc, source, limit, &mut buffer)
 }
 
@@ -76,6 +75,7 @@ fn read_through<S: Source>(
         → IfSome (S.left source.old) (λ bytes. limit < length bytes) }
     ensures failed { result ≡ Err Unread.Failed → Rose (S.faults source.old) (S.faults source.new) }
     ensures later { S.faults source.old ≤ S.faults source.new }
+    ensures quiet { result ≢ Err Unread.Failed → S.faults source.new ≡ S.faults source.old }
     ensures stops { GivesAtMost (S.left source.old) (S.left source.new) (limit + length buffer.old) }
 {
     let mut bytes = Vec::new(alloc);

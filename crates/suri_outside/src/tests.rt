@@ -1,7 +1,7 @@
 //! What no clause says: that each call succeeds with ample memory, and what passes through std.
 use crate::{
-    Failed, Gate, Gathered, MemSink, MemSource, OpenGate, PIECE, Sink, Source, StdSink, StdSource,
-    Unread, read_whole, write_whole,
+    BLOCK, Failed, Gate, Gathered, MemSink, MemSource, OpenGate, RepeatSource, Sink, Source,
+    StdSink, StdSource, Unread, read_whole, write_whole,
 };
 use std::io;
 use std::io::{ErrorKind, Read, Write};
@@ -13,6 +13,26 @@ struct Pipe {
     read: bool,
     taken: usize,
     flush: bool,
+}
+
+// A writer that holds back what it takes, at most four bytes a write, until it is flushed.
+#[derive(Drop)]
+struct Held {
+    waiting: usize,
+    sent: usize,
+}
+
+impl Write for Held {
+    fn write(&mut self, buf: &[u8]) -> io::Result<usize> {
+        self.waiting = self.waiting.saturating_add(buf.len().min(4));
+        Ok(buf.len().min(4))
+    }
+
+    fn flush(&mut self) -> io::Result<()> {
+        self.sent = self.sent.saturating_add(self.waiting);
+        self.waiting = 0;
+        Ok(())
+    }
 }
 
 fn refused(works: bool) -> io::Result<()> {
@@ -84,7 +104,22 @@ fn std_sink_passes_bytes_and_failures_on(rt: HostRuntime) -> Result<(), Fail> {
 }
 
 #[test]
-fn source_in_memory_gives_pieces_and_fails_as_listed(rt: HostRuntime) -> Result<(), Fail> {
+fn std_sink_flushes_after_each_write(rt: HostRuntime) -> Result<(), Fail> {
+    for (text, sent) in [(b"a".as_slice(), 1), (b"abcd", 4), (b"abcdefgh", 4)] {
+        let mut held = Held {
+            waiting: 0,
+            sent: 0,
+        };
+        let mut sink = StdSink::new(&mut held);
+        assert_eq!(rt; sink.write(text), Ok(sent));
+        drop(sink);
+        assert_eq!(rt; (held.waiting, held.sent), (0, sent));
+    }
+    Ok(())
+}
+
+#[test]
+fn source_in_memory_gives_parts_and_fails_as_listed(rt: HostRuntime) -> Result<(), Fail> {
     let alloc = rt.alloc();
     let mut buffer = [0; 20];
     let mut small = [0; 3];
@@ -101,7 +136,7 @@ fn source_in_memory_gives_pieces_and_fails_as_listed(rt: HostRuntime) -> Result<
 }
 
 #[test]
-fn sink_in_memory_takes_pieces_and_fails_as_listed(rt: HostRuntime) -> Result<(), Fail> {
+fn sink_in_memory_takes_parts_and_fails_as_listed(rt: HostRuntime) -> Result<(), Fail> {
     let alloc = rt.alloc();
     let mut sink = MemSink::new(alloc, 25, 10, vec![in alloc; 3]?)?;
     let text = b"0123456789abcdefghij0123456789";
@@ -134,9 +169,30 @@ fn source_is_read_to_its_end(rt: HostRuntime) -> Result<(), Fail> {
 }
 
 #[test]
+fn repeats_are_read_up_to_the_limit(rt: HostRuntime) -> Result<(), Fail> {
+    let alloc = rt.alloc();
+    for (left, limit, want) in [
+        (0, 0, Ok(0)),
+        (1, 0, Err(Unread::Above)),
+        (200_000, 200_000, Ok(200_000)),
+        (200_001, 200_000, Err(Unread::Above)),
+    ] {
+        let mut source = RepeatSource::new(7, left);
+        match read_whole(alloc, &mut source, limit) {
+            Ok(bytes) => {
+                assert_eq!(rt; Ok(bytes.len()), want);
+                assert!(rt; bytes.iter().all(|byte| *byte == 7));
+            }
+            Err(fault) => assert_eq!(rt; Err(fault), want),
+        }
+    }
+    Ok(())
+}
+
+#[test]
 fn texts_are_gathered_before_they_are_written(rt: HostRuntime) -> Result<(), Fail> {
     let alloc = rt.alloc();
-    let mut sink = MemSink::new(alloc, 2 * PIECE, 5000, Vec::new(alloc))?;
+    let mut sink = MemSink::new(alloc, 2 * BLOCK, 5000, Vec::new(alloc))?;
     let mut gathered = Gathered::new(alloc);
     let line = vec![in alloc; b'x'; 1000]?;
     for _ in 0..65 {

@@ -20,8 +20,8 @@ pub trait Source {
 
     /// Puts the first bytes that are left into the front of `into`, and answers how many bytes
     /// these are: at most `into.len()`. `Ok(0)` on a buffer that isn't empty is the end of the
-    /// input. `Failed` comes only where the count of faults rose in this call, or stands at its
-    /// type's end; then no byte was taken from the source.
+    /// input. `Failed` comes only where the count of faults rose by one in this call, or stands at
+    /// its type's end; then no byte was taken from the source. `Ok` leaves the count as it was.
     fn read(&mut self, into: &mut [u8]) -> Result<usize, Failed>
         ensures bound { ReadsAtMost result into.new }
         ensures bytes { ReadConsumes (left self.old) (left self.new) result into.new }
@@ -38,12 +38,13 @@ pub trait Sink {
     // How often a write failed. It never falls.
     ghost faults: { Self → ℕ };
 
-    /// Takes the first bytes of `piece`, and answers how many bytes these are: at most
-    /// `piece.len()`. `Failed`, and `Ok(0)` on a piece that isn't empty, come only where the count
-    /// of faults rose in this call, or stands at its type's end; then nothing was taken.
-    fn write(&mut self, piece: &[u8]) -> Result<usize, Failed>
-        ensures bound { WritesAtMost result piece.now }
-        ensures bytes { WriteAppends (taken self.old) (taken self.new) result piece.now }
+    /// Takes the first of the bytes, and answers how many these are: at most `bytes.len()`.
+    /// `Failed`, and `Ok(0)` on bytes that aren't none, come only where the count of faults rose by
+    /// one in this call, or stands at its type's end; then nothing was taken. `Ok` leaves the count
+    /// as it was.
+    fn write(&mut self, bytes: &[u8]) -> Result<usize, Failed>
+        ensures bound { WritesAtMost result bytes.now }
+        ensures bytes { WriteAppends (taken self.old) (taken self.new) result bytes.now }
         ensures cause { HasCause (faults self.old) (faults self.new) result }
-        ensures idle { result ≡ Ok 0 → 0 < length piece.now → Rose (faults self.old) (faults self.new) };
+        ensures idle { result ≡ Ok 0 → 0 < length bytes.now → Rose (faults self.old) (faults self.new) };
 }

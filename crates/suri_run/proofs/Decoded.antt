@@ -8,6 +8,7 @@ use Rattle.packet_decode.specs.declared.whole.View.{View}
 use Rattle.suri_base.specs.Capture.{AreFactsOf, IsKey}
 use Rattle.suri_base.specs.Keys.{is_at_most}
 use Rattle.suri_base.specs.Protocols.{is_icmp}
+use Rattle.suri_base.specs.Vlans.{AreVlans}
 use Rattle.suri_base.specs.declared.counter.Counter.{Counter}
 use Rattle.suri_base.specs.declared.facts.Facts.{Facts}
 use Rattle.suri_base.specs.declared.frame.Frame.{Frame}
@@ -29,10 +30,7 @@ pub key_in_order : (v : View) (k : Keyed) → IsKeyable v → k ≡ keyed_of v �
 key_in_order v k able is order =
     let same : v.vlans ≡ k.key.vlans = sym (vlans_of_key v k is) in
     record {
-      few = subst (λ (w : Vlans). w.count ≤ 3) same able.few;
-      first_unused = subst (λ (w : Vlans). w.count < 1 → w.first ≡ 0) same able.first_unused;
-      second_unused = subst (λ (w : Vlans). w.count < 2 → w.second ≡ 0) same able.second_unused;
-      third_unused = subst (λ (w : Vlans). w.count < 3 → w.third ≡ 0) same able.third_unused;
+      vlans = subst (λ (w : Vlans). AreVlans w) same able.vlans;
       order = order;
     }
 

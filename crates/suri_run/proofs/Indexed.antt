@@ -3,9 +3,9 @@ use Rattle.std.proofs.Common.{◌≡◌, ℕ, ◌+◌, ◌-◌, ◌^◌, ◌<◌
 use Rattle.std.proofs.lemmas.Grind.{take_at_read}
 use Rattle.std.proofs.lemmas.List.{drop_all, drop_more, take_all}
 use Rattle.std.proofs.lemmas.List.Sums.{fold_push}
-use Rattle.pcap_read.specs.File.{AreFrames}
-use Rattle.suri_base.specs.Capture.{AreNumbered, AreSeenOf, IsCapture, IsSeenOf, clocks_after, packets_in}
+use Rattle.suri_base.specs.Capture.{AreSeenOf, IsCapture, IsSeenOf, clocks_after, packets_in}
 use Rattle.suri_base.specs.Clock.{clock_of}
+use Rattle.suri_base.specs.Frames.{AreNumbered}
 use Rattle.suri_base.specs.declared.facts.Facts.{Facts}
 use Rattle.suri_base.specs.declared.frame.Frame.{Frame}
 use Rattle.suri_base.specs.declared.seen.Seen.{Seen}
@@ -79,30 +79,25 @@ is_read near size link frame clock bytes s wide value own nameable =
       len = λ f is. facts_len frame clock (view_of link bytes) f (sym value ∙ is);
     }
 
--- frames that were read are numbered as those of a capture
-pub numbered : (size before : ℕ) (frames : List Frame) → AreFrames size before frames → AreNumbered size before frames
-numbered size before [] are = tt
-numbered size before (f ∷ frames) are = (are.0, are.1, are.2, numbered size (before + 1) frames are.4)
-
 -- the packets of numbered frames stand in order
-pub in_order : (size number above : ℕ) (before frames : List Frame) (seen : List Seen) → AreFrames size number frames → clock_of before < 2 ^ 63 → above ≤ number
+pub in_order : (size number above : ℕ) (before frames : List Frame) (seen : List Seen) → size ≤ 2 ^ 30 → AreNumbered size number frames → clock_of before < 2 ^ 63 → above ≤ number
     → AreRead size frames (clocks_after before frames) seen → AreInOrder above (packets_in seen)
-in_order size number above before [] [] are small low read = tt
-in_order size number above before (f ∷ frames) (Bears g ∷ seen) are small low read =
+in_order size number above before [] [] fits are small low read = tt
+in_order size number above before (f ∷ frames) (Bears g ∷ seen) fits are small low read =
     let now : clock_of (before ++ f ∷ []) < 2 ^ 63 = rw (clock_push before f) (omega (arith, small, are.1)) in
     let own = read.0.own in
     let no_is : g.no ≡ number + 1 = own.number ∙ are.0 in (
       omega (arith, no_is, low),
       subst (λ (n : ℕ). n < 2 ^ 63) (sym own.clock) now,
-      omega (arith, read.0.len g refl, are.3),
+      omega (arith, read.0.len g refl, are.2, fits),
       read.0.nameable g refl,
-      in_order size (number + 1) g.no (before ++ f ∷ []) frames seen are.4 now (omega (arith, no_is)) read.1,
+      in_order size (number + 1) g.no (before ++ f ∷ []) frames seen fits are.3 now (omega (arith, no_is)) read.1,
     )
-in_order size number above before (f ∷ frames) (Counted counter ∷ seen) are small low read =
+in_order size number above before (f ∷ frames) (Counted counter ∷ seen) fits are small low read =
     let now : clock_of (before ++ f ∷ []) < 2 ^ 63 = rw (clock_push before f) (omega (arith, small, are.1)) in
-    in_order size (number + 1) above (before ++ f ∷ []) frames seen are.4 now (omega (arith, low)) read.1
-in_order size number above before [] (s ∷ seen) are small low read = absurd read
-in_order size number above before (f ∷ frames) [] are small low read = absurd read
+    in_order size (number + 1) above (before ++ f ∷ []) frames seen fits are.3 now (omega (arith, low)) read.1
+in_order size number above before [] (s ∷ seen) fits are small low read = absurd read
+in_order size number above before (f ∷ frames) [] fits are small low read = absurd read
 
 -- what is known of a loop over the frames of a capture, when it has come so far
 pub record SoFar (link : ℕ) (bytes : List ℕ) (frames : List Frame) (i clock : ℕ) (clocks : List ℕ) (seen : List Seen) : Type 0 where
@@ -110,7 +105,7 @@ pub record SoFar (link : ℕ) (bytes : List ℕ) (frames : List Frame) (i clock 
   pub clocks_left : clocks ++ clocks_after (take i frames) (drop i frames) ≡ clocks_after [] frames
   pub seen_left : seen ++ seen_after link bytes (take i frames) (drop i frames) ≡ seen_after link bytes [] frames
   pub read : AreRead (length bytes) (take i frames) clocks seen
-  pub rest : AreFrames (length bytes) i (drop i frames)
+  pub rest : AreNumbered (length bytes) i (drop i frames)
 
 -- the frame at this place is the next one
 next_frame : (frames : List Frame) (i : ℕ) (d f : Frame) → i < length frames → f ≡ get_or frames i d → drop i frames ≡ f ∷ drop (i + 1) frames
@@ -141,7 +136,7 @@ pub next : (link : ℕ) (bytes whole : List ℕ) (frames : List Frame) (i clock 
 next link bytes whole frames i clock now clocks clocks_now seen seen_now d f s so low is clock_is clocks_are bytes_are value own nameable seen_are =
     let cons = next_frame frames i d f low is in
     let more = one_more frames i d f low is in
-    let rest : AreFrames (length bytes) i (f ∷ drop (i + 1) frames) = subst (λ (l : List Frame). AreFrames (length bytes) i l) cons so.rest in
+    let rest : AreNumbered (length bytes) i (f ∷ drop (i + 1) frames) = subst (λ (l : List Frame). AreNumbered (length bytes) i l) cons so.rest in
     let now_is : now ≡ clock_of (take i frames ++ f ∷ []) = clock_is ∙ clock_next link bytes frames i clock clocks seen f so in
     let clocks_left : clocks ++ clocks_after (take i frames) (f ∷ drop (i + 1) frames) ≡ clocks_after [] frames =
     subst (λ (l : List Frame). clocks ++ clocks_after (take i frames) l ≡ clocks_after [] frames) cons so.clocks_left in
@@ -158,7 +153,7 @@ next link bytes whole frames i clock now clocks clocks_now seen seen_now d f s s
           (read_push (length bytes) (take i frames) clocks seen f now s so.read
           (is_read (f.at + length (take (f.at + f.len - f.at) (drop f.at whole))) (length bytes) link f now (take (f.at + f.len - f.at) (drop f.at whole)) s
           (rw bytes_are (near_fits bytes f.at f.len rest.2)) value own nameable));
-      rest = rest.4;
+      rest = rest.3;
     }
 
 -- after the last frame
@@ -179,17 +174,17 @@ all_read link bytes frames i clock clocks seen so all =
 
 -- the parts of the capture fit together
 pub is_capture : (link cut : ℕ) (bytes : List ℕ) (frames : List Frame) (i clock : ℕ) (clocks : List ℕ) (seen : List Seen) → SoFar link bytes frames i clock clocks seen → length frames ≤ i
-    → AreFrames (length bytes) 0 frames → length frames ≤ 4194304 → IsCapture (record { bytes = bytes; frames = frames; clocks = clocks; seen = seen; cut_bytes = cut })
+    → AreNumbered (length bytes) 0 frames → length frames ≤ 4194304 → IsCapture (record { bytes = bytes; frames = frames; clocks = clocks; seen = seen; cut_bytes = cut })
 is_capture link cut bytes frames i clock clocks seen so all are few = record {
   few = few;
-  numbered = numbered (length bytes) 0 frames are;
+  numbered = are;
   clocks = all_clocks link bytes frames i clock clocks seen so all;
   seen = read_own (length bytes) frames clocks seen (all_read link bytes frames i clock clocks seen so all);
 }
 
 -- its packets stand in order
 pub all_in_order : (link : ℕ) (bytes : List ℕ) (frames : List Frame) (i clock : ℕ) (clocks : List ℕ) (seen : List Seen) → SoFar link bytes frames i clock clocks seen → length frames ≤ i
-    → AreFrames (length bytes) 0 frames → AreInOrder 0 (packets_in seen)
-all_in_order link bytes frames i clock clocks seen so all are =
-    in_order (length bytes) 0 0 [] frames seen are (omega arith) (omega arith)
+    → length bytes ≤ 2 ^ 30 → AreNumbered (length bytes) 0 frames → AreInOrder 0 (packets_in seen)
+all_in_order link bytes frames i clock clocks seen so all fits are =
+    in_order (length bytes) 0 0 [] frames seen fits are (omega arith) (omega arith)
     (subst (λ (l : List ℕ). AreRead (length bytes) frames l seen) (all_clocks link bytes frames i clock clocks seen so all) (all_read link bytes frames i clock clocks seen so all))

@@ -1,4 +1,4 @@
--- The counts of pieces stay in range.
+-- The counts of plain runs stay in range.
 use Rattle.std.proofs.Common.{ℕ, zero, suc, ◌+◌, ◌*◌, ◌^◌, ◌<◌, ◌≤◌, List, [], ◌∷◌, ◌++◌, Bool, true, false, cond, length, get_or, arith, inl, inr, All}
 use Rattle.std.specs.Prelude.{filter, sum_by}
 use Rattle.std.specs.List.{list_any}
@@ -9,7 +9,7 @@ use Rattle.suri_base.specs.declared.key.Side.{Side}
 use Rattle.flow_sum.specs.Run.{alone, first_of, members, with_one_more}
 use Rattle.flow_sum.specs.Sums.{InRange, dir_of, sent_by, sums_of}
 use Rattle.suri_run.specs.Order.{IsNameable}
-use Rattle.suri_run.specs.Plain.{Piece, cut_piece, is_cut, open_piece}
+use Rattle.suri_run.specs.Plain.{PlainRun, cut_run, is_cut, open_run}
 use Rattle.suri_run.specs.Steps.{HasRoom, IsSettled, Kept, advanced, kept}
 use Rattle.suri_base.proofs.SameKeys.{bool_is}
 use Rattle.suri_run.proofs.PlainLaws.{FirstsBelow}
@@ -18,8 +18,8 @@ abbrev pub AllShort : List Facts → Type 0
 AllShort [] = Unit {0}
 AllShort (f ∷ fs) = (f.len < 2 ^ 32) × AllShort fs
 
--- a piece of at most so many packets, none past a number, with a clock in range and a key that can be named
-pub record IsSmall (n top : ℕ) (p : Piece) : Type 0 where
+-- a plain run of at most so many packets, none past a number, with a clock in range and a key that can be named
+pub record IsSmall (n top : ℕ) (p : PlainRun) : Type 0 where
   pub few : length (members p.run) ≤ n
   pub short : AllShort (members p.run)
   pub newest : p.run.newest.no ≤ top
@@ -27,7 +27,7 @@ pub record IsSmall (n top : ℕ) (p : Piece) : Type 0 where
   pub clock : p.run.newest.clock < 2 ^ 63
   pub named : IsNameable (first_of p.run).key
 
-abbrev pub AreSmall : ℕ → ℕ → List Piece → Type 0
+abbrev pub AreSmall : ℕ → ℕ → List PlainRun → Type 0
 AreSmall n top [] = Unit {0}
 AreSmall n top (p ∷ ps) = IsSmall n top p × AreSmall n top ps
 
@@ -47,13 +47,13 @@ few_kept keeps (f ∷ fs) h = by (keeps f) (few_kept keeps fs h.1)
     }
     by false more = record { few = omega (arith, more.few); short = more.short }
 
-in_range : (n : ℕ) (side : Side) (p : Piece) (f : Facts) → length (members p.run) ≤ n → AllShort (members p.run) → n ≤ 4194304 → f.len < 2 ^ 32
+in_range : (n : ℕ) (side : Side) (p : PlainRun) (f : Facts) → length (members p.run) ≤ n → AllShort (members p.run) → n ≤ 4194304 → f.len < 2 ^ 32
     → InRange (dir_of (sent_by side (members p.run))) f
 in_range n side p f few short most len =
     let some = few_kept (λ (g : Facts). is_side g.side side) (members p.run) short in
     record { pkts = omega (arith, some.few); bytes = omega (arith, some.few, some.short) }
 
-has_room : (n top : ℕ) (p : Piece) (f : Facts) → IsSmall n top p → n ≤ 4194304 → top < f.no → f.len < 2 ^ 32 → HasRoom (sums_of p.run) f
+has_room : (n top : ℕ) (p : PlainRun) (f : Facts) → IsSmall n top p → n ≤ 4194304 → top < f.no → f.len < 2 ^ 32 → HasRoom (sums_of p.run) f
 has_room n top p f small most above len = record {
   later = omega (arith, small.newest);
   to_server = in_range n _ p f small.few small.short most len;
@@ -62,7 +62,7 @@ has_room n top p f small most above len = record {
 }
 
 -- every kept flow has room for the next packet
-pub have_room : (bytes : List ℕ) (n top : ℕ) (ps : List Piece) (f : Facts) → AreSmall n top ps → n ≤ 4194304 → top < f.no → f.len < 2 ^ 32
+pub have_room : (bytes : List ℕ) (n top : ℕ) (ps : List PlainRun) (f : Facts) → AreSmall n top ps → n ≤ 4194304 → top < f.no → f.len < 2 ^ 32
     → All (λ flow. HasRoom flow.obj.sums f) (kept bytes ps)
 have_room bytes n top [] f small most above len = λ k d lt. absurd (omega arith)
 have_room bytes n top (p ∷ ps) f small most above len = λ k. by k (have_room bytes n top ps f small.1 most above len)
@@ -72,7 +72,7 @@ have_room bytes n top (p ∷ ps) f small most above len = λ k. by k (have_room 
     by (suc k) more d lt = more k d (omega arith)
 
 -- the record of every kept flow can be made
-pub all_settled : (bytes : List ℕ) (n top : ℕ) (ps : List Piece) → AreSmall n top ps → All (λ flow. IsSettled flow.obj.sums) (kept bytes ps)
+pub all_settled : (bytes : List ℕ) (n top : ℕ) (ps : List PlainRun) → AreSmall n top ps → All (λ flow. IsSettled flow.obj.sums) (kept bytes ps)
 all_settled bytes n top [] small = λ k d lt. absurd (omega arith)
 all_settled bytes n top (p ∷ ps) small = λ k. by k (all_settled bytes n top ps small.1)
   where
@@ -80,12 +80,12 @@ all_settled bytes n top (p ∷ ps) small = λ k. by k (all_settled bytes n top p
     by zero more d lt = record { clock = small.0.clock; named = small.0.named }
     by (suc k) more d lt = more k d (omega arith)
 
-pub firsts_below : (n top up : ℕ) (ps : List Piece) → AreSmall n top ps → top < up → FirstsBelow up ps
+pub firsts_below : (n top up : ℕ) (ps : List PlainRun) → AreSmall n top ps → top < up → FirstsBelow up ps
 firsts_below n top up [] small above = tt
 firsts_below n top up (p ∷ ps) small above = (omega (arith, small.0.first), firsts_below n top up ps small.1 above)
 
 -- what is small stays so, for one packet more
-larger : (n top up : ℕ) (p : Piece) → IsSmall n top p → top ≤ up → IsSmall (n + 1) up p
+larger : (n top up : ℕ) (p : PlainRun) → IsSmall n top p → top ≤ up → IsSmall (n + 1) up p
 larger n top up p small more = record {
   few = omega (arith, small.few);
   short = small.short;
@@ -95,11 +95,11 @@ larger n top up p small more = record {
   named = small.named;
 }
 
-all_larger : (n top up : ℕ) (ps : List Piece) → AreSmall n top ps → top ≤ up → AreSmall (n + 1) up ps
+all_larger : (n top up : ℕ) (ps : List PlainRun) → AreSmall n top ps → top ≤ up → AreSmall (n + 1) up ps
 all_larger n top up [] small more = tt
 all_larger n top up (p ∷ ps) small more = (larger n top up p small.0 more, all_larger n top up ps small.1 more)
 
-ended_small : (n top : ℕ) (p : Piece) (f : Facts) → IsSmall n top p → IsSmall n top (cut_piece p.run f)
+ended_small : (n top : ℕ) (p : PlainRun) (f : Facts) → IsSmall n top p → IsSmall n top (cut_run p.run f)
 ended_small n top p f small = record { few = small.few; short = small.short; newest = small.newest; first = small.first; clock = small.clock; named = small.named }
 
 -- a packet is in range
@@ -108,14 +108,14 @@ pub record IsFine (f : Facts) : Type 0 where
   pub len : f.len < 2 ^ 32
   pub named : IsNameable f.key
 
-alone_small : (n : ℕ) (f : Facts) → IsFine f → IsSmall (n + 1) f.no (open_piece (alone f))
+alone_small : (n : ℕ) (f : Facts) → IsFine f → IsSmall (n + 1) f.no (open_run (alone f))
 alone_small n f fine = record { few = omega arith; short = (fine.len, tt); newest = omega arith; first = omega arith; clock = fine.clock; named = fine.named }
 
-push_small : (n top : ℕ) (ps : List Piece) (f : Facts) → AreSmall n top ps → top < f.no → IsFine f → AreSmall (n + 1) f.no (ps ++ open_piece (alone f) ∷ [])
+push_small : (n top : ℕ) (ps : List PlainRun) (f : Facts) → AreSmall n top ps → top < f.no → IsFine f → AreSmall (n + 1) f.no (ps ++ open_run (alone f) ∷ [])
 push_small n top [] f small above fine = (alone_small n f fine, tt)
 push_small n top (p ∷ ps) f small above fine = (larger n top f.no p small.0 (omega arith), push_small n top ps f small.1 above fine)
 
-more_small : (n top : ℕ) (p : Piece) (f : Facts) → IsSmall n top p → top < f.no → IsFine f → IsSmall (n + 1) f.no (open_piece (with_one_more f p.run))
+more_small : (n top : ℕ) (p : PlainRun) (f : Facts) → IsSmall n top p → top < f.no → IsFine f → IsSmall (n + 1) f.no (open_run (with_one_more f p.run))
 more_small n top p f small above fine = record {
   few = omega (arith, small.few);
   short = (fine.len, small.short);
@@ -125,7 +125,7 @@ more_small n top p f small above fine = record {
   named = small.named;
 }
 
-pub advanced_small : (n top : ℕ) (could : Piece → Bool) (ps : List Piece) (f : Facts) → AreSmall n top ps → top < f.no → IsFine f → AreSmall (n + 1) f.no (advanced could ps f)
+pub advanced_small : (n top : ℕ) (could : PlainRun → Bool) (ps : List PlainRun) (f : Facts) → AreSmall n top ps → top < f.no → IsFine f → AreSmall (n + 1) f.no (advanced could ps f)
 advanced_small n top could [] f small above fine = (alone_small n f fine, tt)
 advanced_small n top could (p ∷ ps) f small above fine =
     let here = larger n top f.no p small.0 (omega arith) in

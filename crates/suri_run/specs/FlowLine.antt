@@ -1,5 +1,5 @@
 -- The flow line: a JSON object on one line.
-use Rattle.std.specs.Prelude.{ℕ, ◌-◌, ◌/◌, ◌||◌, ◌==◌, min, max, bit_and, bit_or, Bool, true, false, if◌then◌else◌, List, [], ◌∷◌, ◌++◌, codes, option_map, None, Some}
+use Rattle.std.specs.Prelude.{ℕ, ◌-◌, ◌/◌, ◌==◌, min, max, bit_or, Bool, true, false, if◌then◌else◌, List, [], ◌∷◌, ◌++◌, codes, option_map, None, Some}
 use Rattle.std.specs.declared.option.Option.{Option}
 use Rattle.serde_json.specs.Data.{Data, Members, array, boolean, item, member, no_items, no_members, number, object, put, string, unsigned}
 use Rattle.serde_json.specs.Written.{compact_text}
@@ -11,7 +11,9 @@ use Rattle.suri_base.specs.declared.key.Side.TheVariants.{FromA}
 use Rattle.suri_base.specs.declared.key.Vlans.{Vlans}
 use Rattle.suri_base.specs.declared.reason.Reason.{Reason}
 use Rattle.suri_base.specs.declared.reason.Reason.TheVariants.{Timeout, TcpReuse, Forced, Shutdown}
+use Rattle.suri_base.specs.Flags.{has_all}
 use Rattle.suri_base.specs.Keys.{is_side}
+use Rattle.suri_base.specs.Protocols.{has_ports, is_tcp, is_udp}
 use Rattle.flow_object.specs.declared.outcome.FlowLine.{FlowLine}
 use Rattle.flow_sum.specs.declared.sums.Sums.{Sums}
 use Rattle.tcp_session.specs.declared.classes.Class.{Class}
@@ -80,16 +82,16 @@ app_data app.Tls = Some (string (codes "tls"))
 app_data app.Ssh = Some (string (codes "ssh"))
 app_data app.Dns = Some (string (codes "dns"))
 
--- the names of the protocols that bear flows: TCP (6), UDP (17), ICMP (1), and the ICMP of IPv6 (58)
+-- the names of the protocols that bear flows: TCP, UDP, ICMP (1, RFC 792), and the ICMP of IPv6 (RFC 4443)
 abbrev pub proto_text : ℕ → List ℕ
 proto_text proto =
-    if proto == 6 then codes "TCP"
-    else (if proto == 17 then codes "UDP"
+    if is_tcp proto then codes "TCP"
+    else (if is_udp proto then codes "UDP"
     else (if proto == 1 then codes "ICMP" else codes "IPv6-ICMP"))
 
 -- a port, for TCP and UDP
 abbrev pub port_data : ℕ → ℕ → Option Data
-port_data proto port = if (proto == 6) || (proto == 17) then Some (count port) else None
+port_data proto port = if has_ports proto then Some (count port) else None
 
 -- the ids of the VLAN tags, the outermost first, where there is a tag
 abbrev pub vlan_data : Vlans → Option Data
@@ -131,7 +133,7 @@ all_flags s = bit_or s.ts.flags s.tc.flags
 
 -- a flag that is set (RFC 9293, section 3.1)
 abbrev pub flag_data : ℕ → ℕ → Option Data
-flag_data flag flags = where_true (bit_and flags flag == flag)
+flag_data flag flags = where_true (has_all flag flags)
 
 abbrev pub tcp_members : FlowLine → Members
 tcp_members l =
@@ -158,7 +160,7 @@ tcp_data l = object (with_flags (all_flags l.sums) (tcp_members l))
 
 -- for TCP alone
 abbrev pub tcp_part : FlowLine → Option Data
-tcp_part l = if l.sums.key.proto == 6 then Some (tcp_data l) else None
+tcp_part l = if is_tcp l.sums.key.proto then Some (tcp_data l) else None
 
 -- the members that each line has, but for the object `flow`, where the Community ID, the addresses and the end have these texts
 abbrev pub line_members : FlowLine → List ℕ → List ℕ → List ℕ → List ℕ → Members

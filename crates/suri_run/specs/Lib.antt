@@ -12,3 +12,4 @@ pub mod StatsLine
 pub mod Steps
 pub mod Taken
 pub mod Time
+pub mod Words

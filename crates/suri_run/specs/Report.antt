@@ -14,7 +14,7 @@ use Rattle.flow_sum.specs.Run.{members}
 use Rattle.suri_run.specs.Counts.{all_counted, counts_of}
 use Rattle.suri_run.specs.FlowLine.{flow_line}
 use Rattle.suri_run.specs.Index.{captured_of}
-use Rattle.suri_run.specs.Plain.{ArePlain, Piece, records_of, with_key}
+use Rattle.suri_run.specs.Plain.{ArePlain, PlainRun, records_of, with_key}
 use Rattle.suri_run.specs.StatsLine.{stats_line}
 use Rattle.suri_run.specs.declared.stats_line.Stats.{Stats}
 
@@ -70,21 +70,21 @@ abbrev pub text_of : List FlowLine → Stats → List ℕ
 text_of lines stats = lines_of lines ++ stats_line stats
 
 -- the packets of a run in file order
-abbrev pub in_file_order : Piece → List Facts
+abbrev pub in_file_order : PlainRun → List Facts
 in_file_order p = reverse (members p.run)
 
--- these records and these counts are what is reported of a capture with these bytes
-pub record IsReport (capture : List ℕ) (lines : List FlowLine) (stats : Stats) : Type 0 where
+-- the plain definition: these records and these counts are what is reported of a capture with these bytes
+pub record IsPlainReport (capture : List ℕ) (lines : List FlowLine) (stats : Stats) : Type 0 where
   -- the bytes are this capture file
   pub file : CaptureFile
   pub reads : Reads capture (Ok file)
   -- its packets are cut into these runs, key by key
-  pub pieces : List Piece
-  pub plain : ArePlain (packets_in (seen_in capture file)) pieces
+  pub plain_runs : List PlainRun
+  pub plain : ArePlain (packets_in (seen_in capture file)) plain_runs
   -- each run is one flow record, by rising number of its first frame
-  pub records : lines ≡ records_of capture (clock_of file.frames) pieces
+  pub records : lines ≡ records_of capture (clock_of file.frames) plain_runs
   pub counts : stats ≡ stats_of file (seen_in capture file) lines
   -- so the runs of each key, end to end, are all packets of that key: none is lost, and none counted twice
-  pub partition : (k : Key) → flat_map in_file_order (with_key k pieces) ≡ key_list k (packets_in (seen_in capture file))
+  pub partition : (k : Key) → flat_map in_file_order (with_key k plain_runs) ≡ key_list k (packets_in (seen_in capture file))
   -- and each frame of the capture is counted once, under one decoder counter or in one flow record
   pub once : stats.frames ≡ all_counted stats.decoder + stats.packets

@@ -8,15 +8,14 @@ use Rattle.suri_base.specs.declared.reason.Reason.{Reason}
 use Rattle.suri_base.specs.declared.reason.Reason.TheVariants.{Timeout, TcpReuse, Shutdown}
 use Rattle.suri_base.specs.declared.seen.Seen.{Seen}
 use Rattle.suri_base.specs.declared.seen.Seen.TheVariants.{Bears, Counted}
-use Rattle.flow_object.specs.Object.{Object, class_in, line_in, object_of}
+use Rattle.flow_expiry.specs.Expiry.{object_expired, object_reused}
+use Rattle.flow_object.specs.Object.{Object, line_in, object_of}
 use Rattle.flow_object.specs.declared.outcome.FlowLine.{FlowLine}
 use Rattle.flow_sum.specs.Run.{Run, alone, members, with_one_more}
 use Rattle.flow_sum.specs.Sums.{InRange}
 use Rattle.flow_sum.specs.declared.sums.Sums.{Sums}
-use Rattle.timeout_table.specs.Expiry.{has_expired}
-use Rattle.timeout_table.specs.Table.{timeout_of}
 use Rattle.suri_run.specs.Order.{IsNameable}
-use Rattle.suri_run.specs.Plain.{Piece, cut_piece, has_key, is_closed, is_cut, open_piece, opens, verdicts_of}
+use Rattle.suri_run.specs.Plain.{PlainRun, cut_run, has_key, is_cut, open_run, verdicts_of}
 
 -- what is kept of a flow: its object, and what ended it
 pub record Kept : Type 0 where
@@ -27,26 +26,22 @@ pub record Kept : Type 0 where
 abbrev pub object_for : List ℕ → Run → Object
 object_for bytes r = object_of 0 r (verdicts_of bytes (members r))
 
--- the flow that is kept of a piece
-abbrev pub flow_of : List ℕ → Piece → Kept
+-- the flow that is kept of a plain run
+abbrev pub flow_of : List ℕ → PlainRun → Kept
 flow_of bytes p = record { obj = object_for bytes p.run; ended = p.ended }
 
-abbrev pub kept : List ℕ → List Piece → List Kept
-kept bytes pieces = map (λ p. flow_of bytes p) pieces
-
--- the object had expired at a clock
-abbrev pub object_expired : Object → ℕ → Bool
-object_expired o clock = has_expired o.sums.last_clock clock (timeout_of o.sums.key.proto (class_in o) false)
+abbrev pub kept : List ℕ → List PlainRun → List Kept
+kept bytes plain_runs = map (λ p. flow_of bytes p) plain_runs
 
 -- why a packet ends what is kept of a run, where it does
 unfoldable pub cut_at : Object → Facts → Option Reason
 cut_at o f =
-    if object_expired o f.clock then Some Timeout
-    else (if opens f.tcp && is_closed (class_in o) then Some TcpReuse else None)
+    if object_expired o f.clock false then Some Timeout
+    else (if object_reused o f then Some TcpReuse else None)
 
 -- why a flow ended, where the capture ends at this clock
 abbrev pub reason_in : ℕ → Kept → Reason
-reason_in clock k = unwrap_or k.ended (if object_expired k.obj clock then Timeout else Shutdown)
+reason_in clock k = unwrap_or k.ended (if object_expired k.obj clock false then Timeout else Shutdown)
 
 -- the record of a flow, where the capture ends at this clock
 unfoldable pub record_in : ℕ → Kept → FlowLine
@@ -66,7 +61,7 @@ pub record IsSettled (s : Sums) : Type 0 where
 
 -- the flow of one packet
 abbrev pub begun_flow : List ℕ → Facts → Kept
-begun_flow bytes f = flow_of bytes (open_piece (alone f))
+begun_flow bytes f = flow_of bytes (open_run (alone f))
 
 -- the flow has the key, and nothing ended it
 abbrev pub is_open_of : Key → Kept → Bool
@@ -78,26 +73,26 @@ pub record IsLastOpen (flows : List Kept) (k : Key) (place : ℕ) : Type 0 where
   pub own : (d : Kept) → is_open_of k (slice_index_or flows place d) ≡ true
   pub last : list_any (λ flow. is_open_of k flow) (drop (place + 1) flows) ≡ false
 
--- the piece is open, and has the packet's key
-abbrev pub is_open : Piece → Bool
+-- the plain run is open, and has the packet's key
+abbrev pub is_open : PlainRun → Bool
 is_open p = is_none p.ended
 
-abbrev pub takes : Facts → Piece → Bool
+abbrev pub takes : Facts → PlainRun → Bool
 takes f p = is_open p && has_key f.key p
 
--- one packet more: of the pieces that could take it the last one does, or is ended by it;
--- where none takes it, the packet begins a piece
-abbrev pub advanced : (Piece → Bool) → List Piece → Facts → List Piece
-advanced could [] f = open_piece (alone f) ∷ []
+-- one packet more: of the plain runs that could take it the last one does, or is ended by it;
+-- where none takes it, the packet begins a plain run
+abbrev pub advanced : (PlainRun → Bool) → List PlainRun → Facts → List PlainRun
+advanced could [] f = open_run (alone f) ∷ []
 advanced could (p ∷ ps) f =
     if list_any could ps then p ∷ advanced could ps f
     else (if could p
     then (if is_cut p.run f
-    then cut_piece p.run f ∷ (ps ++ open_piece (alone f) ∷ [])
-    else open_piece (with_one_more f p.run) ∷ ps)
+    then cut_run p.run f ∷ (ps ++ open_run (alone f) ∷ [])
+    else open_run (with_one_more f p.run) ∷ ps)
     else p ∷ advanced could ps f)
 
 -- one frame more
-abbrev pub after_frame : Seen → List Piece → List Piece
-after_frame (Bears f) pieces = advanced (takes f) pieces f
-after_frame (Counted c) pieces = pieces
+abbrev pub after_frame : Seen → List PlainRun → List PlainRun
+after_frame (Bears f) plain_runs = advanced (takes f) plain_runs f
+after_frame (Counted c) plain_runs = plain_runs

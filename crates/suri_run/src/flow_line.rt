@@ -21,7 +21,7 @@ ghost use Rattle.suri_run.specs.Order.{IsNameable};
 use crate::address::ip_text;
 use crate::flow_totals::{end, start, totals_value};
 use crate::members::with_member;
-use crate::names::{TCP, UDP, app_value, proto_name};
+use crate::names::{app_value, proto_name};
 use crate::tcp_part::tcp_value;
 use crate::time::utc_text;
 use community_id::community;
@@ -29,6 +29,7 @@ use flow_object::FlowLine;
 use flow_sum::Sums;
 use serde_json::{Value, json};
 use std::alloc::{AllocError, Global};
+use suri_base::protocol::{TCP, UDP};
 use suri_base::{End, IcmpFacts, NoMemory, Side, Vlans};
 
 // The end that is the client.

@@ -14,6 +14,7 @@ mod index;
 mod members;
 mod names;
 mod notes;
+mod ran;
 mod report;
 mod serve;
 mod stats_line;
@@ -22,38 +23,35 @@ mod tcp_part;
 #[cfg(test)]
 mod test_frames;
 #[cfg(test)]
+mod test_limits;
+#[cfg(test)]
 mod test_texts;
 #[cfg(test)]
 mod tests;
 mod time;
 mod top;
+mod words;
 mod writing;
 
 use std::env;
 use std::process::ExitCode;
 use suri_outside::{OpenGate, StdSink, StdSource};
-use top::run;
+use top::run_args;
 
 fn main(rt: HostRuntime) -> ExitCode {
-    let alloc = rt.alloc();
-    let mut words = Vec::new(alloc);
-    if let Ok(args) = env::args(&rt) {
-        for word in args {
-            if words.push(word).is_err() {
-                return ExitCode::from(1);
-            }
-        }
-    }
     let mut source = StdSource::new(rt.stdin());
     let mut sink = StdSink::new(rt.stdout());
     let mut notes = StdSink::new(rt.stderr());
-    let ran = run(
-        alloc,
-        words.as_slice(),
-        &mut source,
-        &mut sink,
-        &mut notes,
-        &OpenGate,
-    );
-    ExitCode::from(ran.status)
+    let args = env::args(&rt);
+    ExitCode::from(
+        run_args(
+            rt.alloc(),
+            args,
+            &mut source,
+            &mut sink,
+            &mut notes,
+            &OpenGate,
+        )
+        .status,
+    )
 }

@@ -5,17 +5,9 @@ ghost use Rattle.suri_run.specs.FlowLine.{app_data, class_text, proto_text, reas
 
 use serde_json::Value;
 use std::alloc::{AllocError, Global};
+use suri_base::protocol::{ICMP, TCP, UDP};
 use suri_base::{App, Reason};
 use tcp_session::{Class, State};
-
-// The number of ICMP among IP protocols (RFC 792).
-const ICMP: u8 = 1;
-
-/// The number of TCP among IP protocols (RFC 9293, section 3.1).
-pub const TCP: u8 = 6;
-
-/// The number of UDP among IP protocols (RFC 768).
-pub const UDP: u8 = 17;
 
 /// The name of a reason why a flow ended.
 pub fn reason_name(reason: Reason) -> &'static str

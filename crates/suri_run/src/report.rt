@@ -1,5 +1,5 @@
 //! What is reported of a capture: its flow records, and the counts of the stats line.
-ghost use Rattle.pcap_read.specs.File.{AreFrames, Reads, view};
+ghost use Rattle.pcap_read.specs.File.{Reads};
 ghost use Rattle.pcap_read.specs.Header.{IsLink};
 ghost use Rattle.std.specs.Prelude.{
   ◌≡◌,
@@ -13,11 +13,11 @@ ghost use Rattle.std.specs.Prelude.{
   length,
   sum_by,
 };
-ghost use Rattle.suri_base.specs.Clock.{clock_of};
+ghost use Rattle.suri_base.specs.Frames.{AreNumbered};
 ghost use Rattle.suri_run.specs.Order.{IsNameable};
-ghost use Rattle.suri_run.specs.Report.{IsReport, is_reuse, is_shutdown, is_timeout};
-ghost use Rattle.suri_run.specs.Run.{IsRefusal};
-ghost use Rattle.suri_run.specs.Taken.{counted};
+ghost use Rattle.suri_run.specs.Report.{IsPlainReport, is_reuse, is_shutdown, is_timeout};
+ghost use Rattle.suri_run.specs.Run.{IsUnreported};
+ghost use Rattle.suri_run.specs.Taken.{stats_taken};
 
 use crate::cause::Cause;
 use crate::flows::{finish_all, flows_of};
@@ -97,7 +97,7 @@ fn frame_bytes(frames: &[Frame]) -> u64
 
 // The counts of a capture, whose frames have so many captured bytes, and of its flow records.
 fn count(capture: &Capture, capture_bytes: u64, lines: &[FlowLine]) -> Stats
-    ensures { result ≡ counted capture.now capture_bytes lines.now }
+    ensures { result ≡ stats_taken capture.now capture_bytes lines.now }
 {
     let tally = count_frames(capture);
     Stats {
@@ -118,11 +118,11 @@ fn count(capture: &Capture, capture_bytes: u64, lines: &[FlowLine]) -> Stats
 // The report of a capture that was read.
 fn report_of(alloc: Global, bytes: Vec<u8>, file: Frames) -> Result<Report, Cause>
     requires small { length bytes.items ≤ 2 ^ 30 }
-    requires inside { AreFrames (length bytes.items) 0 file.list.items }
-    requires few { length file.list.items ≤ 4194304 }
-    requires reads { Reads bytes.items (Ok (view file)) }
+    requires inside { AreNumbered (length bytes.items) 0 file.frames }
+    requires few { length file.frames ≤ 4194304 }
+    requires reads { Reads bytes.items (Ok file) }
     requires link { IsLink file.link }
-    ensures report { IfOk result (λ r. IsReport bytes.items r.lines.items r.stats) }
+    ensures report { IfOk result (λ r. IsPlainReport bytes.items r.lines.items r.stats) }
     ensures named { IfOk result (λ r. All (λ line. IsNameable line.sums.key) r.lines.items) }
     ensures memory { IfErr result (λ c. c ≡ Cause.NoMemory) }
 {
@@ -138,9 +138,9 @@ fn report_of(alloc: Global, bytes: Vec<u8>, file: Frames) -> Result<Report, Caus
 /// than 4,194,304 frames; else it can only want memory.
 pub fn make_report(alloc: Global, bytes: Vec<u8>) -> Result<Report, Cause>
     requires { length bytes.items ≤ 2 ^ 30 }
-    ensures report { IfOk result (λ r. IsReport bytes.items r.lines.items r.stats) }
+    ensures report { IfOk result (λ r. IsPlainReport bytes.items r.lines.items r.stats) }
     ensures named { IfOk result (λ r. All (λ line. IsNameable line.sums.key) r.lines.items) }
-    ensures refused { IfErr result (IsRefusal bytes.items) }
+    ensures refused { IfErr result (IsUnreported bytes.items) }
 {
     let file = match frames(alloc, &bytes) {
         Ok(file) => file,

@@ -5,28 +5,13 @@ ghost use Rattle.serde_json.specs.View.{view};
 ghost use Rattle.suri_run.specs.FlowLine.{all_flags, flag_data, flags_text, put_some, tcp_data, tcp_members, tcp_part, with_flags};
 
 use crate::members::{truth, with_member};
-use crate::names::{TCP, state_name};
+use crate::names::state_name;
 use flow_object::FlowLine;
 use flow_sum::Sums;
 use serde_json::{Value, json};
 use std::alloc::{AllocError, Global};
-
-// The flags of a TCP header (RFC 9293, section 3.1).
-const FIN: u8 = 0x01;
-
-const SYN: u8 = 0x02;
-
-const RST: u8 = 0x04;
-
-const PSH: u8 = 0x08;
-
-const ACK: u8 = 0x10;
-
-const URG: u8 = 0x20;
-
-const ECE: u8 = 0x40;
-
-const CWR: u8 = 0x80;
+use suri_base::protocol::TCP;
+use suri_base::tcp_flag::{ACK, CWR, ECE, FIN, PSH, RST, SYN, URG};
 
 // The flags of both directions.
 fn flags(sums: &Sums) -> u8

@@ -1,6 +1,6 @@
-//! Writing a report: its flow lines and its stats line, gathered into large pieces.
+//! Writing a report: its flow lines and its stats line, gathered into large blocks.
 ghost use Rattle.std.specs.Io.KnownBytes.{Appends};
-ghost use Rattle.std.specs.Prelude.{◌≡◌, ◌≤◌, ◌++◌, All, IfErr, IfOk, OnErr, OnOk};
+ghost use Rattle.std.specs.Prelude.{◌≡◌, ◌++◌, All, IfErr, IfOk, OnErr, OnOk};
 ghost use Rattle.suri_outside.specs.Bytes.{TakesAllBut, TakesFront};
 ghost use Rattle.suri_run.specs.FlowLine.{flow_line};
 ghost use Rattle.suri_run.specs.Order.{IsNameable};
@@ -30,7 +30,7 @@ fn send_line<K: Sink>(
     ensures ok { OnOk result (TakesAllBut (K.taken sink.old) (K.taken sink.new) gathered.new (gathered.old ++ flow_line line.now seed)) }
     ensures front { OnErr result (TakesFront (K.taken sink.old) (K.taken sink.new) (gathered.old ++ flow_line line.now seed)) }
     ensures cause { IfErr result (IsWriteCause (K.faults sink.old) (K.faults sink.new)) }
-    ensures later { K.faults sink.old ≤ K.faults sink.new }
+    ensures quiet { OnOk result (K.faults sink.new ≡ K.faults sink.old) }
 {
     let text = flow_text(alloc, line, SEED)?;
     gathered.add(sink, text.as_bytes())?;
@@ -43,7 +43,7 @@ fn send_lines<K: Sink>(alloc: Global, sink: &mut K, lines: &[FlowLine]) -> Resul
     ensures ok { IfOk result (λ g. TakesAllBut (K.taken sink.old) (K.taken sink.new) g (lines_of lines.now)) }
     ensures front { OnErr result (TakesFront (K.taken sink.old) (K.taken sink.new) (lines_of lines.now)) }
     ensures cause { IfErr result (IsWriteCause (K.faults sink.old) (K.faults sink.new)) }
-    ensures later { K.faults sink.old ≤ K.faults sink.new }
+    ensures quiet { OnOk result (K.faults sink.new ≡ K.faults sink.old) }
 {
     let mut gathered = Gathered::new(alloc);
     for line in lines {
@@ -62,7 +62,7 @@ fn send_stats<K: Sink>(
     ensures ok { OnOk result (Appends (K.taken sink.old) (K.taken sink.new) (gathered ++ stats_line stats.now)) }
     ensures front { OnErr result (TakesFront (K.taken sink.old) (K.taken sink.new) (gathered ++ stats_line stats.now)) }
     ensures cause { IfErr result (IsWriteCause (K.faults sink.old) (K.faults sink.new)) }
-    ensures later { K.faults sink.old ≤ K.faults sink.new }
+    ensures quiet { OnOk result (K.faults sink.new ≡ K.faults sink.old) }
 {
     let line = stats_text(alloc, stats)?;
     gathered.add(sink, line.as_bytes())?;
@@ -80,7 +80,7 @@ pub fn write_report<K: Sink>(alloc: Global, sink: &mut K, report: &Report) -> Re
     ensures front { OnErr result (TakesFront (K.taken sink.old) (K.taken sink.new)
         (text_of report.now.lines.items report.now.stats)) }
     ensures cause { IfErr result (IsWriteCause (K.faults sink.old) (K.faults sink.new)) }
-    ensures later { K.faults sink.old ≤ K.faults sink.new }
+    ensures quiet { OnOk result (K.faults sink.new ≡ K.faults sink.old) }
 {
     let gathered = send_lines(alloc, sink, &report.lines)?;
     send_stats(alloc, sink, gathered, &report.stats)

@@ -3,7 +3,7 @@ use Rattle.std.proofs.lemmas.Grind.{common_steps}
 use Rattle.std.proofs.lemmas.List.{take_rest}
 use Rattle.pcap_read.specs.Records.{captured, frame_of}
 use Rattle.pcap_read.proofs.SoFar.{finished, refused, one_more, nothing_left, too_many, cut_header, too_long, cut_body}
-use Rattle.pcap_read.proofs.Inside.{so_far_inside}
+use Rattle.pcap_read.proofs.Inside.{so_far_inside, so_far_short}
 use Rattle.pcap_read.proofs.records.read_records.Goals as goal
 
 pub returns-then-left-eq0-clause-told : goal.returns-then-left-eq0-clause-told
@@ -69,3 +69,12 @@ returns-then-left-lt-RECORD_HEADER_LEN-clause-inside c =
 pub returns-then-left-size-clause-inside : goal.returns-then-left-size-clause-inside
 returns-then-left-size-clause-inside c =
     so_far_inside c.args.header c.args.bytes.now c.loop-rest.at c.loop-rest.list.items c.loop-rest.invariant.so_far c.requires.read.unit_small (λ i. omega (arith, c.type_inv.bytes i)) c.loop-rest.invariant.within
+
+pub returns-then-left-eq0-clause-short : goal.returns-then-left-eq0-clause-short
+returns-then-left-eq0-clause-short c = so_far_short c.args.header c.args.bytes.now c.loop-rest.at c.loop-rest.list.items c.loop-rest.invariant.so_far
+
+pub returns-then-left-lt-RECORD_HEADER_LEN-clause-short : goal.returns-then-left-lt-RECORD_HEADER_LEN-clause-short
+returns-then-left-lt-RECORD_HEADER_LEN-clause-short c = so_far_short c.args.header c.args.bytes.now c.loop-rest.at c.loop-rest.list.items c.loop-rest.invariant.so_far
+
+pub returns-then-left-size-clause-short : goal.returns-then-left-size-clause-short
+returns-then-left-size-clause-short c = so_far_short c.args.header c.args.bytes.now c.loop-rest.at c.loop-rest.list.items c.loop-rest.invariant.so_far

@@ -1,0 +1,45 @@
+#!/usr/bin/env bash
+# Whole runs of the built program: its status, text and note over captures, files that are none, and words. The texts in tests/runs are the
+# model's (`python3 tests/model < CAPTURE`).
+set -u
+cd "$(dirname "$0")/.." || exit 1
+work=$(mktemp -d)
+trap 'rm -rf "$work"' EXIT
+passed=0
+failed=0
+
+# header: 24 bytes, little-endian, microseconds, Ethernet
+header() { printf '\xd4\xc3\xb2\xa1\x02\x00\x04\x00\x00\x00\x00\x00\x00\x00\x00\x00\x00\x00\x04\x00\x01\x00\x00\x00'; }
+
+# expect NAME STATUS TEXT NOTE [WORD..]: runs the program over $work/input; TEXT is a file
+expect() {
+  local name=$1 status=$2 text=$3 note=$4
+  shift 4
+  bin/suri_run "$@" <"$work/input" >"$work/text" 2>"$work/note"
+  local seen=$?
+  if [ $seen -eq "$status" ] && cmp -s "$work/text" "$text" && [ "$(cat "$work/note")" = "$note" ]; then
+    passed=$((passed + 1))
+  else
+    failed=$((failed + 1))
+    echo "$name: status $seen and note '$(cat "$work/note")' in place of $status and '$note', or another text than $text"
+  fi
+}
+
+for capture in first tagged web; do
+  cp "examples/$capture.pcap" "$work/input"
+  expect "$capture" 0 "tests/runs/$capture.txt" ''
+done
+head -c -1 examples/first.pcap >"$work/input"
+expect 'a cut capture' 0 tests/runs/cut.txt ''
+header >"$work/input"
+expect 'an empty capture' 0 tests/runs/empty.txt ''
+expect 'an unknown word' 2 /dev/null 'suri_run: words refused' --unknown
+expect 'a word that is no text' 2 /dev/null 'suri_run: words refused' $'\xff'
+: >"$work/input"
+expect 'no byte' 5 /dev/null 'suri_run: capture refused: short header'
+cp README.md "$work/input"
+expect 'another file' 5 /dev/null "suri_run: capture refused: magic $(head -c 4 README.md | od -An -tx1 | tr -d ' \n')"
+{ header; head -c 16 /dev/zero | tr '\0' '\1'; } >"$work/input"
+expect 'a record too long' 5 /dev/null 'suri_run: capture refused: record 1 has length 16843009'
+echo "$passed passed, $failed failed"
+[ $failed -eq 0 ]
