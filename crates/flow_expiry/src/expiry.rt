@@ -1,7 +1,7 @@
 //! Whether a flow has expired.
-ghost use Rattle.std.specs.Prelude.{◌≡◌, ◌^◌, ◌<◌, List};
+ghost use Rattle.std.specs.Prelude.{◌≡◌, ◌^◌, ◌<◌, List, ℕ};
 ghost use Rattle.flow_expiry.specs.Expiry.{expired, object_expired};
-ghost use Rattle.flow_object.specs.Object.{object_of};
+ghost use Rattle.flow_object.specs.Standing.{StandsFor};
 ghost use Rattle.flow_sum.specs.Run.{Run};
 ghost use Rattle.suri_base.specs.declared.app.App.{App};
 
@@ -17,7 +17,7 @@ pub fn has_expired(obj: &FlowObj, clock: u64, emergency: bool) -> bool
     requires { obj.now.sums.last_clock < 2 ^ 63 }
     ensures told { result ≡ object_expired obj.now clock emergency }
     // It is so of each run that the object stands for.
-    ensures run { (r : Run) (judged : List App) → obj.now ≡ object_of obj.now.depth r judged
+    ensures run { (bytes : List ℕ) (r : Run) (judged : List App) → StandsFor obj.now bytes r judged
         → result ≡ expired r clock emergency }
 {
     let sums = obj.sums();

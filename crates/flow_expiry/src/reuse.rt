@@ -1,7 +1,7 @@
 //! Whether a packet reuses the key of a flow.
-ghost use Rattle.std.specs.Prelude.{◌≡◌, List};
+ghost use Rattle.std.specs.Prelude.{◌≡◌, List, ℕ};
 ghost use Rattle.flow_expiry.specs.Expiry.{is_closed, object_reused, opens, reuses};
-ghost use Rattle.flow_object.specs.Object.{object_of};
+ghost use Rattle.flow_object.specs.Standing.{StandsFor};
 ghost use Rattle.flow_sum.specs.Run.{Run};
 ghost use Rattle.suri_base.specs.declared.app.App.{App};
 
@@ -35,7 +35,7 @@ fn is_closed(class: Class) -> bool
 pub fn reuses_key(obj: &FlowObj, facts: &Facts) -> bool
     ensures told { result ≡ object_reused obj.now facts.now }
     // It is so of each run that the object stands for.
-    ensures run { (r : Run) (judged : List App) → obj.now ≡ object_of obj.now.depth r judged
+    ensures run { (bytes : List ℕ) (r : Run) (judged : List App) → StandsFor obj.now bytes r judged
         → result ≡ reuses r facts.now }
 {
     opens(facts.tcp) && is_closed(obj.class())

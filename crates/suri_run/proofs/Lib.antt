@@ -1,12 +1,14 @@
+pub mod Carrying
 pub mod Complete
 pub mod Counting
 pub mod Dates
 pub mod Decoded
 pub mod FloatFree
+pub mod Giving
 pub mod Indexed
-pub mod Judged
 pub mod Outputs
 pub mod Padded
+pub mod Keeping
 pub mod PlainCounts
 pub mod PlainLaws
 pub mod PlainOne
@@ -16,3 +18,4 @@ pub mod Records
 pub mod Reported
 pub mod Sending
 pub mod SoFar
+pub mod Storing

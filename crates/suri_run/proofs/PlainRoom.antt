@@ -1,5 +1,5 @@
 -- The counts of plain runs stay in range.
-use Rattle.std.proofs.Common.{ℕ, zero, suc, ◌+◌, ◌*◌, ◌^◌, ◌<◌, ◌≤◌, List, [], ◌∷◌, ◌++◌, Bool, true, false, cond, length, get_or, arith, inl, inr, All}
+use Rattle.std.proofs.Common.{ℕ, zero, suc, ◌+◌, ◌*◌, ◌^◌, ◌<◌, ◌≤◌, List, [], ◌∷◌, ◌++◌, Bool, true, false, cond, length, get_or, arith, inl, inr, All, subst, sym}
 use Rattle.std.specs.Prelude.{filter, sum_by}
 use Rattle.std.specs.List.{list_any}
 use Rattle.std.proofs.lemmas.List.Sums.{sum_by-cons}
@@ -8,9 +8,10 @@ use Rattle.suri_base.specs.declared.facts.Facts.{Facts}
 use Rattle.suri_base.specs.declared.key.Side.{Side}
 use Rattle.flow_sum.specs.Run.{alone, first_of, members, with_one_more}
 use Rattle.flow_sum.specs.Sums.{InRange, dir_of, sent_by, sums_of}
+use Rattle.flow_sum.specs.declared.sums.Sums.{Sums}
 use Rattle.suri_run.specs.Order.{IsNameable}
 use Rattle.suri_run.specs.Plain.{PlainRun, cut_run, is_cut, open_run}
-use Rattle.suri_run.specs.Steps.{HasRoom, IsSettled, Kept, advanced, kept}
+use Rattle.suri_run.specs.Steps.{AreKept, HasRoom, IsSettled, Kept, advanced}
 use Rattle.suri_base.proofs.SameKeys.{bool_is}
 use Rattle.suri_run.proofs.PlainLaws.{FirstsBelow}
 
@@ -62,22 +63,26 @@ has_room n top p f small most above len = record {
 }
 
 -- every kept flow has room for the next packet
-pub have_room : (bytes : List ℕ) (n top : ℕ) (ps : List PlainRun) (f : Facts) → AreSmall n top ps → n ≤ 4194304 → top < f.no → f.len < 2 ^ 32
-    → All (λ flow. HasRoom flow.obj.sums f) (kept bytes ps)
-have_room bytes n top [] f small most above len = λ k d lt. absurd (omega arith)
-have_room bytes n top (p ∷ ps) f small most above len = λ k. by k (have_room bytes n top ps f small.1 most above len)
+pub have_room : (depth : ℕ) (bytes : List ℕ) (n top : ℕ) (ps : List PlainRun) (flows : List Kept) (f : Facts) → AreKept depth bytes ps flows → AreSmall n top ps → n ≤ 4194304
+    → top < f.no → f.len < 2 ^ 32 → All (λ flow. HasRoom flow.obj.sums f) flows
+have_room depth bytes n top [] [] f kept small most above len = λ k d lt. absurd (omega arith)
+have_room depth bytes n top [] (l ∷ flows) f kept small most above len = absurd kept
+have_room depth bytes n top (p ∷ ps) [] f kept small most above len = absurd kept
+have_room depth bytes n top (p ∷ ps) (l ∷ flows) f kept small most above len = λ k. by k (have_room depth bytes n top ps flows f kept.1 small.1 most above len)
   where
-    by : (k : ℕ) → All (λ flow. HasRoom flow.obj.sums f) (kept bytes ps) → (d : Kept) → k < length (kept bytes (p ∷ ps)) → HasRoom (get_or (kept bytes (p ∷ ps)) k d).obj.sums f
-    by zero more d lt = has_room n top p f small.0 most above len
+    by : (k : ℕ) → All (λ flow. HasRoom flow.obj.sums f) flows → (d : Kept) → k < length (l ∷ flows) → HasRoom (get_or (l ∷ flows) k d).obj.sums f
+    by zero more d lt = subst (λ (s : Sums). HasRoom s f) (sym kept.0.object.stands.beside.sums) (has_room n top p f small.0 most above len)
     by (suc k) more d lt = more k d (omega arith)
 
 -- the record of every kept flow can be made
-pub all_settled : (bytes : List ℕ) (n top : ℕ) (ps : List PlainRun) → AreSmall n top ps → All (λ flow. IsSettled flow.obj.sums) (kept bytes ps)
-all_settled bytes n top [] small = λ k d lt. absurd (omega arith)
-all_settled bytes n top (p ∷ ps) small = λ k. by k (all_settled bytes n top ps small.1)
+pub all_settled : (depth : ℕ) (bytes : List ℕ) (n top : ℕ) (ps : List PlainRun) (flows : List Kept) → AreKept depth bytes ps flows → AreSmall n top ps → All (λ flow. IsSettled flow.obj.sums) flows
+all_settled depth bytes n top [] [] kept small = λ k d lt. absurd (omega arith)
+all_settled depth bytes n top [] (l ∷ flows) kept small = absurd kept
+all_settled depth bytes n top (p ∷ ps) [] kept small = absurd kept
+all_settled depth bytes n top (p ∷ ps) (l ∷ flows) kept small = λ k. by k (all_settled depth bytes n top ps flows kept.1 small.1)
   where
-    by : (k : ℕ) → All (λ flow. IsSettled flow.obj.sums) (kept bytes ps) → (d : Kept) → k < length (kept bytes (p ∷ ps)) → IsSettled (get_or (kept bytes (p ∷ ps)) k d).obj.sums
-    by zero more d lt = record { clock = small.0.clock; named = small.0.named }
+    by : (k : ℕ) → All (λ flow. IsSettled flow.obj.sums) flows → (d : Kept) → k < length (l ∷ flows) → IsSettled (get_or (l ∷ flows) k d).obj.sums
+    by zero more d lt = subst IsSettled (sym kept.0.object.stands.beside.sums) (record { clock = small.0.clock; named = small.0.named })
     by (suc k) more d lt = more k d (omega arith)
 
 pub firsts_below : (n top up : ℕ) (ps : List PlainRun) → AreSmall n top ps → top < up → FirstsBelow up ps

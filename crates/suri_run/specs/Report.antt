@@ -82,7 +82,7 @@ pub record IsPlainReport (capture : List ℕ) (lines : List FlowLine) (stats : S
   pub plain_runs : List PlainRun
   pub plain : ArePlain (packets_in (seen_in capture file)) plain_runs
   -- each run is one flow record, by rising number of its first frame
-  pub records : lines ≡ records_of capture (clock_of file.frames) plain_runs
+  pub records : lines ≡ records_of 1048576 capture (clock_of file.frames) plain_runs
   pub counts : stats ≡ stats_of file (seen_in capture file) lines
   -- so the runs of each key, end to end, are all packets of that key: none is lost, and none counted twice
   pub partition : (k : Key) → flat_map in_file_order (with_key k plain_runs) ≡ key_list k (packets_in (seen_in capture file))

@@ -1,5 +1,6 @@
 -- The words of single steps through the packets: what is kept of the runs so far, and what one packet more makes of it.
-use Rattle.std.specs.Prelude.{◌≡◌, ℕ, ◌+◌, ◌^◌, ◌<◌, ◌&&◌, map, Bool, true, false, if◌then◌else◌, List, [], ◌∷◌, ◌++◌, length, drop, Option, Some, None, is_none, unwrap_or}
+use Rattle.std.specs.Prelude.{◌≡◌, ℕ, ◌+◌, ◌^◌, ◌<◌, ◌≤◌, ◌&&◌, nat_lt, Bool, true, false, if◌then◌else◌, List, [], ◌∷◌, ◌++◌, length, drop, sum_by, Option, Some, None, is_none, unwrap_or}
+use Rattle.std.specs.Option.{is_some}
 use Rattle.std.specs.List.{list_any, slice_index_or}
 use Rattle.suri_base.specs.Keys.{same_key}
 use Rattle.suri_base.specs.declared.facts.Facts.{Facts}
@@ -9,11 +10,13 @@ use Rattle.suri_base.specs.declared.reason.Reason.TheVariants.{Timeout, TcpReuse
 use Rattle.suri_base.specs.declared.seen.Seen.{Seen}
 use Rattle.suri_base.specs.declared.seen.Seen.TheVariants.{Bears, Counted}
 use Rattle.flow_expiry.specs.Expiry.{object_expired, object_reused}
-use Rattle.flow_object.specs.Object.{Object, line_in, object_of}
-use Rattle.flow_object.specs.declared.outcome.FlowLine.{FlowLine}
+use Rattle.flow_object.specs.Object.{Object, nodes_in, no_stops, stops_in}
+use Rattle.flow_object.specs.Standing.{StandsFor}
 use Rattle.flow_sum.specs.Run.{Run, alone, members, with_one_more}
 use Rattle.flow_sum.specs.Sums.{InRange}
 use Rattle.flow_sum.specs.declared.sums.Sums.{Sums}
+use Rattle.segment_pool.specs.Pool.{HasPast, limit_of, spare_of}
+use Rattle.segment_pool.specs.declared.pool.SegmentPool.{SegmentPool}
 use Rattle.suri_run.specs.Order.{IsNameable}
 use Rattle.suri_run.specs.Plain.{PlainRun, cut_run, has_key, is_cut, open_run, verdicts_of}
 
@@ -22,16 +25,54 @@ pub record Kept : Type 0 where
   pub obj : Object
   pub ended : Option Reason
 
--- the object of a run of a capture with these bytes; no byte of its streams is looked at
-abbrev pub object_for : List ℕ → Run → Object
-object_for bytes r = object_of 0 r (verdicts_of bytes (members r))
+-- 1 for a TCP packet with payload, which may need a node; else 0
+abbrev pub carries : Facts → ℕ
+carries f = if is_some f.tcp && nat_lt 0 f.pay_len then 1 else 0
 
--- the flow that is kept of a plain run
-abbrev pub flow_of : List ℕ → PlainRun → Kept
-flow_of bytes p = record { obj = object_for bytes p.run; ended = p.ended }
+-- the same of a frame
+abbrev pub carried_by : Seen → ℕ
+carried_by (Bears f) = carries f
+carried_by (Counted c) = 0
 
-abbrev pub kept : List ℕ → List PlainRun → List Kept
-kept bytes plain_runs = map (λ p. flow_of bytes p) plain_runs
+-- the object is that of a run of a capture with these bytes, and of the verdicts on its packets, where so many bytes of each stream are looked at.
+-- No stream was stopped, and it has no more nodes than the run has packets that may need one
+pub record IsObjectOf (depth : ℕ) (bytes : List ℕ) (r : Run) (o : Object) : Type 0 where
+  pub setting : o.depth ≡ depth
+  pub stands : StandsFor o bytes r (verdicts_of bytes (members r))
+  pub stops : stops_in o ≡ no_stops
+  pub few : nodes_in o ≤ sum_by carries (members r)
+
+-- the object is that of a run with one packet more, whose verdict it doesn't have yet
+pub record IsStored (depth : ℕ) (bytes : List ℕ) (f : Facts) (r : Run) (o : Object) : Type 0 where
+  pub setting : o.depth ≡ depth
+  pub stands : StandsFor o bytes (with_one_more f r) (verdicts_of bytes (members r))
+  pub stops : stops_in o ≡ no_stops
+  pub few : nodes_in o ≤ carries f + sum_by carries (members r)
+
+-- the flow is kept of a plain run
+pub record IsKept (depth : ℕ) (bytes : List ℕ) (p : PlainRun) (k : Kept) : Type 0 where
+  pub object : IsObjectOf depth bytes p.run k.obj
+  pub ended : k.ended ≡ p.ended
+
+-- each is kept of its own plain run
+abbrev pub AreKept : ℕ → List ℕ → List PlainRun → List Kept → Type 0
+AreKept depth bytes [] [] = Unit {0}
+AreKept depth bytes (p ∷ ps) (k ∷ ks) = IsKept depth bytes p k × AreKept depth bytes ps ks
+AreKept depth bytes _ _ = ⊥
+
+-- how many nodes some flows have
+abbrev pub nodes_of : List Kept → ℕ
+nodes_of flows = sum_by (λ k. nodes_in k.obj) flows
+
+-- a pool that only calls have changed, with no more nodes than a note can tell
+pub record IsInUse (pool : SegmentPool) : Type 0 where
+  pub past : HasPast pool
+  pub few : limit_of pool < 2 ^ 32
+
+-- the nodes of the pool are at home or with these flows
+pub record IsBalanced (flows : List Kept) (pool : SegmentPool) : Type 0 where
+  pub past : IsInUse pool
+  pub balance : nodes_of flows + spare_of pool ≡ limit_of pool
 
 -- why a packet ends what is kept of a run, where it does
 unfoldable pub cut_at : Object → Facts → Option Reason
@@ -42,10 +83,6 @@ cut_at o f =
 -- why a flow ended, where the capture ends at this clock
 abbrev pub reason_in : ℕ → Kept → Reason
 reason_in clock k = unwrap_or k.ended (if object_expired k.obj clock false then Timeout else Shutdown)
-
--- the record of a flow, where the capture ends at this clock
-unfoldable pub record_in : ℕ → Kept → FlowLine
-record_in clock k = line_in k.obj (reason_in clock k) false
 
 -- a packet comes after these, and fits into their counts
 pub record HasRoom (s : Sums) (f : Facts) : Type 0 where
@@ -59,9 +96,16 @@ pub record IsSettled (s : Sums) : Type 0 where
   pub clock : s.last_clock < 2 ^ 63
   pub named : IsNameable s.key
 
--- the flow of one packet
-abbrev pub begun_flow : List ℕ → Facts → Kept
-begun_flow bytes f = flow_of bytes (open_run (alone f))
+-- a flow that was begun by a packet: it has no node
+pub record IsBegun (depth : ℕ) (bytes : List ℕ) (f : Facts) (k : Kept) : Type 0 where
+  pub is_kept : IsKept depth bytes (open_run (alone f)) k
+  pub none : nodes_in k.obj ≡ 0
+
+-- behind these flows stands one that was begun by a packet
+pub record Begins (depth : ℕ) (bytes : List ℕ) (f : Facts) (old new : List Kept) : Type 0 where
+  pub flow : Kept
+  pub behind : new ≡ old ++ flow ∷ []
+  pub begun : IsBegun depth bytes f flow
 
 -- the flow has the key, and nothing ended it
 abbrev pub is_open_of : Key → Kept → Bool

@@ -13,6 +13,7 @@ mod flows;
 mod index;
 mod members;
 mod names;
+mod nodes;
 mod notes;
 mod ran;
 mod report;

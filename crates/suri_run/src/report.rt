@@ -22,12 +22,16 @@ ghost use Rattle.suri_run.specs.Taken.{stats_taken};
 use crate::cause::Cause;
 use crate::flows::{finish_all, flows_of};
 use crate::index::make_index;
+use crate::nodes::pool_for;
 use crate::stats_line::Stats;
 use crate::tally::count_frames;
 use flow_object::FlowLine;
 use pcap_read::{Frames, PcapFault, frames};
 use std::alloc::Global;
 use suri_base::{Capture, Frame, Reason};
+
+// How many bytes of each stream are looked at.
+const DEPTH: u32 = 1_048_576;
 
 /// The flow records by rising number of their first frames, and the counts.
 #[derive(Drop)]
@@ -128,8 +132,9 @@ fn report_of(alloc: Global, bytes: Vec<u8>, file: Frames) -> Result<Report, Caus
 {
     let capture_bytes = frame_bytes(&file.list);
     let capture = make_index(alloc, bytes, file)?;
-    let flows = flows_of(alloc, &capture)?;
-    let lines = finish_all(alloc, flows, capture.last_clock())?;
+    let mut pool = pool_for(alloc, &capture)?;
+    let flows = flows_of(alloc, &mut pool, DEPTH, &capture)?;
+    let lines = finish_all(alloc, &mut pool, flows, capture.last_clock())?;
     let stats = count(&capture, capture_bytes, &lines);
     Ok(Report { lines, stats })
 }
