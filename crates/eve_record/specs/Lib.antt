@@ -1,7 +1,6 @@
 pub mod Address
 pub mod Fields
 pub mod FlowLine
-pub mod Nameable
 pub mod NetflowLine
 pub mod Parts
 pub mod StatsLine

@@ -7,7 +7,7 @@ ghost use Rattle.eve_record.specs.FlowLine.{
   flow_middle,
   totals_data,
 };
-ghost use Rattle.eve_record.specs.Nameable.{IsNameable};
+ghost use Rattle.suri_base.specs.Keys.{IsNameable};
 ghost use Rattle.serde_json.specs.Written.{compact_text};
 ghost use Rattle.std.specs.Prelude.{◌≡◌, IfOk, OnOk, Some, codes};
 

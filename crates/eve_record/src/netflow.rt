@@ -1,7 +1,7 @@
 //! The netflow lines of a record.
 ghost use Rattle.community_id.specs.Community.{community_bytes, community_text};
 ghost use Rattle.eve_record.specs.Fields.{SendsData, SendsFields, SendsIf};
-ghost use Rattle.eve_record.specs.Nameable.{IsNameable};
+ghost use Rattle.suri_base.specs.Keys.{IsNameable};
 ghost use Rattle.eve_record.specs.NetflowLine.{
   dir_age,
   dir_back,

@@ -7,7 +7,7 @@ use Rattle.std.specs.declared.option.Option.{Option}
 use Rattle.clap.specs.Words.{App, Kinds, Row, Rule, Text, fault_of, first_of, matches_of, new_app, new_rule, one_of, with_rule}
 use Rattle.clap.specs.declared.builder.action.ArgAction.TheVariants.{Set, SetTrue}
 use Rattle.clap.specs.declared.builder.value_parser.ValueParser.TheVariants as parser
-use Rattle.suri_opts.specs.declared.types.Layout.{Layout}
+use Rattle.suri_base.specs.declared.layout.Layout.{Layout}
 use Rattle.suri_opts.specs.declared.types.Options.{Options}
 
 -- an option with a number in these bounds

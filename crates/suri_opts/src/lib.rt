@@ -8,4 +8,4 @@ mod tests;
 mod types;
 
 pub use reading::options;
-pub use types::{Layout, Options, WordFault};
+pub use types::{Options, WordFault};

@@ -28,10 +28,11 @@ ghost use Rattle.suri_opts.specs.Words.{
 ghost use Rattle.suri_opts.specs.declared.types.Options.{Options};
 
 use crate::building::command;
-use crate::types::{Layout, Options, WordFault};
+use crate::types::{Options, WordFault};
 use clap::error::ErrorKind;
 use clap::{ArgMatches, Error};
 use std::alloc::Global;
+use suri_base::Layout;
 
 // The number of an option, as clap reads its text.
 fn number_read(matches: &ArgMatches<'_>, id: &str) -> Option<u32>

@@ -1,7 +1,8 @@
 //! Words beside what they have to choose. Bounds and defaults are those of the table in README.
-use crate::{Layout, Options, WordFault, options};
+use crate::{Options, WordFault, options};
 use std::alloc::Global;
 use std::test::Fail;
+use suri_base::Layout;
 
 // What no word changes.
 const DEFAULTS: Options = Options {

@@ -15,7 +15,7 @@ use Rattle.suri_base.specs.declared.frame.Frame.{Frame}
 use Rattle.suri_base.specs.declared.key.Vlans.{Vlans}
 use Rattle.suri_base.specs.declared.seen.Seen.TheVariants.{Bears}
 use Rattle.suri_run.specs.Decode.{facts_from, seen_from}
-use Rattle.suri_run.specs.Order.{IsNameable}
+use Rattle.suri_base.specs.Keys.{IsNameable}
 
 vlans_of_key : (v : View) (k : Keyed) → k ≡ keyed_of v → k.key.vlans ≡ v.vlans
 unfolding keyed_of

@@ -13,7 +13,8 @@ use Rattle.suri_base.specs.declared.seen.Seen.TheVariants.{Bears, Counted}
 use Rattle.packet_decode.specs.Layers.{view_of}
 use Rattle.suri_run.specs.Decode.{frame_bytes, seen_of}
 use Rattle.suri_run.specs.Index.{seen_after}
-use Rattle.suri_run.specs.Order.{AreInOrder, IsNameable}
+use Rattle.suri_base.specs.Keys.{IsNameable}
+use Rattle.suri_run.specs.Order.{AreInOrder}
 use Rattle.suri_run.proofs.Decoded.{facts_len}
 
 -- the clock after one frame more

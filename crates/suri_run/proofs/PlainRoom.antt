@@ -9,7 +9,7 @@ use Rattle.suri_base.specs.declared.key.Side.{Side}
 use Rattle.flow_sum.specs.Run.{alone, first_of, members, with_one_more}
 use Rattle.flow_sum.specs.Sums.{InRange, dir_of, sent_by, sums_of}
 use Rattle.flow_sum.specs.declared.sums.Sums.{Sums}
-use Rattle.suri_run.specs.Order.{IsNameable}
+use Rattle.suri_base.specs.Keys.{IsNameable}
 use Rattle.suri_run.specs.Plain.{PlainRun, cut_run, is_cut, open_run}
 use Rattle.suri_run.specs.Steps.{AreKept, HasRoom, IsSettled, Kept, advanced}
 use Rattle.suri_base.proofs.SameKeys.{bool_is}

@@ -14,7 +14,7 @@ use Rattle.suri_base.specs.declared.reason.Reason.{Reason}
 use Rattle.suri_base.specs.declared.reason.Reason.TheVariants.{Timeout, Shutdown}
 use Rattle.std.specs.Prelude.{if◌then◌else◌, unwrap_or, Option}
 use Rattle.suri_run.proofs.PlainPlaces.{expired_same}
-use Rattle.suri_run.specs.Order.{IsNameable}
+use Rattle.suri_base.specs.Keys.{IsNameable}
 use Rattle.suri_run.specs.Plain.{PlainRun, reason_of, record_of, records_of, verdicts_of}
 use Rattle.suri_run.specs.Steps.{AreKept, IsKept, IsSettled, Kept, nodes_of, reason_in}
 

@@ -17,7 +17,7 @@ use Rattle.flow_sum.specs.Sums.{InRange}
 use Rattle.flow_sum.specs.declared.sums.Sums.{Sums}
 use Rattle.segment_pool.specs.Pool.{HasPast, limit_of, spare_of}
 use Rattle.segment_pool.specs.declared.pool.SegmentPool.{SegmentPool}
-use Rattle.suri_run.specs.Order.{IsNameable}
+use Rattle.suri_base.specs.Keys.{IsNameable}
 use Rattle.suri_run.specs.Plain.{PlainRun, cut_run, has_key, is_cut, open_run, verdicts_of}
 
 -- what is kept of a flow: its object, and what ended it

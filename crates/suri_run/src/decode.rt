@@ -7,7 +7,7 @@ ghost use Rattle.suri_base.specs.Capture.{IsKey, IsSeenOf};
 ghost use Rattle.suri_base.specs.declared.facts.Facts.{Facts};
 ghost use Rattle.suri_base.specs.declared.seen.Seen.TheVariants.{Bears};
 ghost use Rattle.suri_run.specs.Decode.{facts_from, seen_of};
-ghost use Rattle.suri_run.specs.Order.{IsNameable};
+ghost use Rattle.suri_base.specs.Keys.{IsNameable};
 
 use flow_key::key_of;
 use packet_decode::{View, decode};

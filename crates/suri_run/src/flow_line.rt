@@ -16,7 +16,7 @@ ghost use Rattle.suri_run.specs.FlowLine.{
   with_parts,
   with_ports,
 };
-ghost use Rattle.suri_run.specs.Order.{IsNameable};
+ghost use Rattle.suri_base.specs.Keys.{IsNameable};
 
 use crate::address::ip_text;
 use crate::flow_totals::{end, start, totals_value};

@@ -14,7 +14,7 @@ ghost use Rattle.std.specs.Prelude.{
   sum_by,
 };
 ghost use Rattle.suri_base.specs.Frames.{AreNumbered};
-ghost use Rattle.suri_run.specs.Order.{IsNameable};
+ghost use Rattle.suri_base.specs.Keys.{IsNameable};
 ghost use Rattle.suri_run.specs.Report.{IsPlainReport, is_reuse, is_shutdown, is_timeout};
 ghost use Rattle.suri_run.specs.Run.{IsUnreported};
 ghost use Rattle.suri_run.specs.Taken.{stats_taken};

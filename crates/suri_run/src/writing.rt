@@ -3,7 +3,7 @@ ghost use Rattle.std.specs.Io.KnownBytes.{Appends};
 ghost use Rattle.std.specs.Prelude.{◌≡◌, ◌++◌, All, IfErr, IfOk, OnErr, OnOk};
 ghost use Rattle.suri_outside.specs.Bytes.{TakesAllBut, TakesFront};
 ghost use Rattle.suri_run.specs.FlowLine.{flow_line};
-ghost use Rattle.suri_run.specs.Order.{IsNameable};
+ghost use Rattle.suri_base.specs.Keys.{IsNameable};
 ghost use Rattle.suri_run.specs.Report.{lines_of, seed, text_of};
 ghost use Rattle.suri_run.specs.Run.{IsWriteCause};
 ghost use Rattle.suri_run.specs.StatsLine.{stats_line};

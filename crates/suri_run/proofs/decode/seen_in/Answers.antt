@@ -1,6 +1,6 @@
 use Rattle.std.proofs.Common.{◌≡◌, ◌+◌, length, subst, arith}
 use Rattle.suri_base.specs.declared.facts.Facts.{Facts}
-use Rattle.suri_run.specs.Order.{IsNameable}
+use Rattle.suri_base.specs.Keys.{IsNameable}
 use Rattle.suri_run.proofs.Decoded.{facts_own}
 use Rattle.suri_run.proofs.decode.seen_in.Goals as goal
 

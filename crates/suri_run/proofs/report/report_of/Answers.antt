@@ -1,6 +1,6 @@
 use Rattle.std.proofs.Common.{All, ap, subst, sym}
 use Rattle.pcap_read.specs.File.{CaptureFile}
-use Rattle.suri_run.specs.Order.{IsNameable}
+use Rattle.suri_base.specs.Keys.{IsNameable}
 use Rattle.suri_run.proofs.Records.{all_named}
 use Rattle.suri_run.proofs.Reported.{reported}
 use Rattle.suri_run.proofs.report.report_of.Goals as goal
