@@ -1,13 +1,11 @@
 pub mod Carrying
 pub mod Complete
 pub mod Counting
-pub mod Dates
 pub mod Decoded
-pub mod FloatFree
 pub mod Giving
 pub mod Indexed
+pub mod OneChoice
 pub mod Outputs
-pub mod Padded
 pub mod Keeping
 pub mod PlainCounts
 pub mod PlainLaws

@@ -4,30 +4,26 @@ use Rattle.std.specs.declared.option.Option.{Option}
 use Rattle.suri_outside.specs.Bytes.{TakesAllBut, TakesFront}
 use Rattle.suri_outside.proofs.Fronts.{front_of_more, sent_front_of_more}
 use Rattle.flow_object.specs.declared.outcome.FlowLine.{FlowLine}
-use Rattle.suri_run.specs.FlowLine.{flow_line}
-use Rattle.suri_run.specs.Report.{lines_of, seed}
+use Rattle.suri_opts.specs.declared.types.Options.{Options}
+use Rattle.suri_run.specs.Report.{lines_of, record_lines}
 
--- the line of a record
-abbrev pub line_text : FlowLine → List ℕ
-line_text l = flow_line l seed
+-- the lines from a record on are its own and those behind it
+line_here : (o : Options) (lines : List FlowLine) (i : ℕ) (d : FlowLine) → i < length lines → lines_of o (drop i lines) ≡ record_lines o (get_or lines i d) ++ lines_of o (drop (i + 1) lines)
+line_here o lines i d lt =
+    ap (λ (l : List FlowLine). lines_of o l) (drop-cons lines i d lt) ∙ ap (λ n. record_lines o (get_or lines i d) ++ lines_of o (drop n lines)) (sym (add-one i))
 
--- the lines from a record on are its line and those behind it
-line_here : (lines : List FlowLine) (i : ℕ) (d : FlowLine) → i < length lines → lines_of (drop i lines) ≡ line_text (get_or lines i d) ++ lines_of (drop (i + 1) lines)
-line_here lines i d lt =
-    ap (λ (l : List FlowLine). lines_of l) (drop-cons lines i d lt) ∙ ap (λ n. line_text (get_or lines i d) ++ lines_of (drop n lines)) (sym (add-one i))
-
--- a line more, and what is left
-pub next_line : (lines : List FlowLine) (i : ℕ) (d : FlowLine) (text all : List ℕ) → i < length lines → text ++ lines_of (drop i lines) ≡ all
-    → (text ++ line_text (get_or lines i d)) ++ lines_of (drop (i + 1) lines) ≡ all
-next_line lines i d text all lt rest =
-    append_assoc text (line_text (get_or lines i d)) (lines_of (drop (i + 1) lines)) ∙ ap (λ l. text ++ l) (sym (line_here lines i d lt)) ∙ rest
+-- the lines of one record more, and what is left
+pub next_line : (o : Options) (lines : List FlowLine) (i : ℕ) (d : FlowLine) (text all : List ℕ) → i < length lines → text ++ lines_of o (drop i lines) ≡ all
+    → (text ++ record_lines o (get_or lines i d)) ++ lines_of o (drop (i + 1) lines) ≡ all
+next_line o lines i d text all lt rest =
+    append_assoc text (record_lines o (get_or lines i d)) (lines_of o (drop (i + 1) lines)) ∙ ap (λ l. text ++ l) (sym (line_here o lines i d lt)) ∙ rest
 
 -- where the line could not be sent, a front of all lines was taken
-pub front_of_lines : (a b c : Option (List ℕ)) (waiting text : List ℕ) (lines : List FlowLine) (i : ℕ) (d : FlowLine) (all : List ℕ) → i < length lines
-    → TakesAllBut a b waiting text → text ++ lines_of (drop i lines) ≡ all → TakesFront b c (waiting ++ line_text (get_or lines i d)) → TakesFront a c all
-front_of_lines a b c waiting text lines i d all lt sent rest front =
-    subst (TakesFront a c) (next_line lines i d text all lt rest)
-    (front_of_more a c (text ++ line_text (get_or lines i d)) (lines_of (drop (i + 1) lines)) (sent_front_of_more a b c waiting text (line_text (get_or lines i d)) sent front))
+pub front_of_lines : (a b c : Option (List ℕ)) (waiting text : List ℕ) (o : Options) (lines : List FlowLine) (i : ℕ) (d : FlowLine) (all : List ℕ) → i < length lines
+    → TakesAllBut a b waiting text → text ++ lines_of o (drop i lines) ≡ all → TakesFront b c (waiting ++ record_lines o (get_or lines i d)) → TakesFront a c all
+front_of_lines a b c waiting text o lines i d all lt sent rest front =
+    subst (TakesFront a c) (next_line o lines i d text all lt rest)
+    (front_of_more a c (text ++ record_lines o (get_or lines i d)) (lines_of o (drop (i + 1) lines)) (sent_front_of_more a b c waiting text (record_lines o (get_or lines i d)) sent front))
 
 -- what follows on an error holds on an error
 pub on_err : {T E : Type 0} (r : Result T E) (P Q : Type 0) → (P → Q) → OnErr r P → OnErr r Q

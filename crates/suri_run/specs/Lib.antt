@@ -1,15 +1,11 @@
-pub mod Address
 pub mod Counts
 pub mod Decode
-pub mod FlowLine
 pub mod Index
 pub mod Notes
 pub mod Order
 pub mod Plain
 pub mod Report
 pub mod Run
-pub mod StatsLine
 pub mod Steps
 pub mod Taken
-pub mod Time
 pub mod Words

@@ -1,26 +1,19 @@
-//! Reads a capture from standard input, and writes its flow lines and its stats line to standard
-//! output.
+//! Reads a capture from standard input, and writes its flow lines, netflow lines where they are asked for, and its stats
+//! line to standard output.
 #![tactic(auto)]
 
-mod address;
 mod cause;
 mod counts;
 mod decode;
 mod flow;
-mod flow_line;
-mod flow_totals;
 mod flows;
 mod index;
-mod members;
-mod names;
 mod nodes;
 mod notes;
 mod ran;
 mod report;
 mod serve;
-mod stats_line;
 mod tally;
-mod tcp_part;
 #[cfg(test)]
 mod test_frames;
 #[cfg(test)]
@@ -29,7 +22,6 @@ mod test_limits;
 mod test_texts;
 #[cfg(test)]
 mod tests;
-mod time;
 mod top;
 mod words;
 mod writing;
