@@ -4,8 +4,6 @@
 
 mod expiry;
 mod reuse;
-#[cfg(test)]
-mod tests;
 
 pub use expiry::has_expired;
 pub use reuse::reuses_key;
