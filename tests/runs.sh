@@ -1,10 +1,11 @@
 #!/usr/bin/env bash
 # Whole runs of the built program: its status, text and note over captures, files that are none, and words. The texts in tests/runs are the
-# model's (`python3 tests/model < CAPTURE`).
+# model's (`python3 tests/model OPTIONS < CAPTURE`, with the options of the run).
 set -u
 cd "$(dirname "$0")/.." || exit 1
 work=$(mktemp -d)
 trap 'rm -rf "$work"' EXIT
+program=bin/suri_run
 passed=0
 failed=0
 
@@ -15,7 +16,7 @@ header() { printf '\xd4\xc3\xb2\xa1\x02\x00\x04\x00\x00\x00\x00\x00\x00\x00\x00\
 expect() {
   local name=$1 status=$2 text=$3 note=$4
   shift 4
-  bin/suri_run "$@" <"$work/input" >"$work/text" 2>"$work/note"
+  "$program" "$@" <"$work/input" >"$work/text" 2>"$work/note"
   local seen=$?
   if [ $seen -eq "$status" ] && cmp -s "$work/text" "$text" && [ "$(cat "$work/note")" = "$note" ]; then
     passed=$((passed + 1))
@@ -29,10 +30,19 @@ for capture in first tagged web; do
   cp "examples/$capture.pcap" "$work/input"
   expect "$capture" 0 "tests/runs/$capture.txt" ''
 done
+expect 'netflow lines' 0 tests/runs/web_netflow.txt '' --netflow
+expect 'a depth and a seed' 0 tests/runs/web_shallow.txt '' --depth 5 --seed 7
+expect 'options that change no byte' 0 tests/runs/web.txt '' --workers=64 --batch +7
+cp examples/tagged.pcap "$work/input"
+expect 'netflow lines with tags' 0 tests/runs/tagged_netflow.txt '' --netflow
 head -c -1 examples/first.pcap >"$work/input"
 expect 'a cut capture' 0 tests/runs/cut.txt ''
 header >"$work/input"
 expect 'an empty capture' 0 tests/runs/empty.txt ''
+expect 'more rows than flows' 2 /dev/null 'suri_run: rows 10 exceed memcap 5' --rows 10 --memcap 5
+expect 'a number out of range' 2 /dev/null 'suri_run: words refused' --workers 0
+# bin/suri_run answers this word itself
+program=crates/suri_run/out/suri_run expect 'a word of the script' 2 /dev/null 'suri_run: words refused' --help
 expect 'an unknown word' 2 /dev/null 'suri_run: words refused' --unknown
 expect 'a word that is no text' 2 /dev/null 'suri_run: words refused' $'\xff'
 : >"$work/input"

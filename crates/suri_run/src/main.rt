@@ -19,6 +19,12 @@ mod test_frames;
 #[cfg(test)]
 mod test_limits;
 #[cfg(test)]
+mod test_options;
+#[cfg(test)]
+mod test_runs;
+#[cfg(test)]
+mod test_streams;
+#[cfg(test)]
 mod test_texts;
 #[cfg(test)]
 mod tests;
