@@ -1,17 +1,16 @@
 -- Which packets need nodes, and how many.
-use Rattle.std.proofs.Common.{◌≡◌, ℕ, zero, suc, ◌+◌, ◌-◌, Bool, true, false, List, [], ◌∷◌, Option, Some, None, refl, ap, ◌∙◌, arith, take, drop}
-use Rattle.std.specs.Prelude.{◌&&◌, ◌==◌, if◌then◌else◌, nat_lt, nat_le, slice_range}
+use Rattle.std.proofs.Common.{◌≡◌, ℕ, zero, suc, ◌+◌, ◌-◌, Bool, true, false, List, [], ◌∷◌, Option, Some, None, ap, ◌∙◌, arith, take, drop}
+use Rattle.std.specs.Prelude.{◌&&◌, ◌==◌, if◌then◌else◌, nat_lt, slice_range}
 use Rattle.std.specs.Option.{is_some, unwrap_or}
 use Rattle.std.proofs.Math.Seq.{drop-nil, take-nil}
 use Rattle.reassembly.specs.Kept.{KeptStream}
 use Rattle.reassembly.specs.Members.{Member, base_of, early, first_of, member, offer_of, part_of, parts_from, sequence_of}
-use Rattle.reassembly.specs.Parts.{Part, answer_to, are_covered, frontier_of}
+use Rattle.reassembly.specs.Parts.{Part, answer_to}
 use Rattle.suri_base.specs.App.{payload_of}
 use Rattle.suri_base.specs.Keys.{is_side}
 use Rattle.suri_base.specs.declared.facts.Facts.{Facts}
 use Rattle.suri_base.specs.declared.facts.TcpFacts.{TcpFacts}
-use Rattle.suri_base.specs.declared.stream.Offer.{Offer}
-use Rattle.suri_base.specs.declared.stream.Offer.TheVariants.{InOrder, Nothing, NeedsSegment, Stopped}
+use Rattle.suri_base.specs.declared.stream.Offer.TheVariants.{Nothing, NeedsSegment, Stopped}
 use Rattle.flow_sum.specs.Run.{Run, first_of as first_packet}
 use Rattle.flow_sum.specs.Sums.{client_of}
 use Rattle.flow_object.specs.Object.{Object}

@@ -1,5 +1,5 @@
 -- Flows that are kept of plain runs, one for each.
-use Rattle.std.proofs.Common.{◌≡◌, ℕ, zero, suc, ◌+◌, ◌<◌, ◌≤◌, List, [], ◌∷◌, ◌++◌, Bool, length, drop, get_or, refl, sym, ap, ◌∙◌, arith}
+use Rattle.std.proofs.Common.{◌≡◌, ℕ, zero, suc, ◌<◌, ◌≤◌, List, [], ◌∷◌, ◌++◌, length, drop, get_or, refl, ap, ◌∙◌, arith}
 use Rattle.std.specs.Prelude.{sum_by, ◌&&◌, ◌||◌, is_none}
 use Rattle.std.specs.List.{list_any}
 use Rattle.std.proofs.Math.ListN.{set}
@@ -9,9 +9,8 @@ use Rattle.suri_base.specs.declared.facts.Facts.{Facts}
 use Rattle.suri_base.specs.declared.reason.Reason.{Reason}
 use Rattle.std.specs.Prelude.{Option}
 use Rattle.flow_object.specs.Object.{nodes_in}
-use Rattle.flow_sum.specs.Run.{Run, first_of, members}
+use Rattle.flow_sum.specs.Run.{members}
 use Rattle.flow_sum.specs.declared.sums.Sums.{Sums}
-use Rattle.flow_sum.specs.Sums.{sums_of}
 use Rattle.suri_run.specs.Plain.{PlainRun}
 use Rattle.suri_run.specs.Steps.{AreKept, IsKept, Kept, carries, is_open_of, nodes_of, takes}
 

@@ -1,10 +1,10 @@
 -- Words choose one thing.
-use Rattle.std.proofs.Common.{◌≡◌, ◌≢◌, ◌<◌, ◌≤◌, ℕ, List, [], Option, Some, None, refl, sym, ap, ◌∙◌, arith, inl, inr, ◌⊎◌}
+use Rattle.std.proofs.Common.{◌≡◌, ℕ, List, Option, Some, None, refl, sym, ap, ◌∙◌, arith, inl, inr}
 use Rattle.std.specs.Prelude.{min}
 use Rattle.std.specs.Option.{SomeIff}
 use Rattle.clap.specs.Words.{Row, Text}
 use Rattle.suri_base.specs.declared.layout.Layout.{Layout}
-use Rattle.suri_opts.specs.Words.{AreChoices, AreSizes, Chooses, IsChoice, IsNumberOf, found, within_bounds}
+use Rattle.suri_opts.specs.Words.{AreSizes, Chooses, IsChoice, IsNumberOf, found, within_bounds}
 use Rattle.suri_opts.specs.declared.types.Options.{Options}
 use Rattle.suri_run.specs.Run.{AreRefused, AreTaken, Exceed}
 

@@ -1,12 +1,11 @@
 -- The records of flows, one after another.
 use Rattle.std.proofs.Common.{◌≡◌, ℕ, zero, suc, ◌+◌, ◌<◌, List, [], ◌∷◌, ◌++◌, All, false, length, get_or, sym, ap, ◌∙◌, append_assoc, append-nil, subst, arith}
-use Rattle.std.specs.Prelude.{sum_by}
 use Rattle.std.proofs.lemmas.List.Sums.{sum_by-cons}
 use Rattle.suri_base.specs.declared.app.App.{App}
 use Rattle.flow_object.specs.Line.{line_of}
 use Rattle.flow_object.specs.Object.{Stops, nodes_in, no_stops, stops_in}
 use Rattle.flow_object.specs.Standing.{StandsFor}
-use Rattle.flow_expiry.specs.Expiry.{expired, object_expired}
+use Rattle.flow_expiry.specs.Expiry.{object_expired}
 use Rattle.flow_object.specs.declared.outcome.FlowLine.{FlowLine}
 use Rattle.flow_sum.specs.Run.{Run, members}
 use Rattle.flow_sum.specs.declared.sums.Sums.{Sums}

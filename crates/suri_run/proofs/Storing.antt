@@ -1,13 +1,12 @@
 -- The object of a run that takes a packet, and then the verdict on it.
 use Rattle.std.proofs.Common.{◌≡◌, ◌≢◌, ℕ, ◌+◌, ◌≤◌, List, [], ◌∷◌, sym, ap, ◌∙◌, subst, arith, inl, inr, ◌⊎◌}
-use Rattle.std.specs.Prelude.{sum_by}
 use Rattle.std.proofs.lemmas.List.Sums.{sum_by-cons}
 use Rattle.suri_base.specs.App.{or_else, payload_of, verdict_of}
 use Rattle.suri_base.specs.declared.app.App.{App}
 use Rattle.suri_base.specs.declared.facts.Facts.{Facts}
 use Rattle.suri_base.specs.declared.stream.Offer.{Offer}
 use Rattle.suri_base.specs.declared.stream.Offer.TheVariants.{InOrder, Nothing, NeedsSegment, Stopped}
-use Rattle.flow_object.specs.Object.{Object, Stops, nodes_in, no_stops, stops_in}
+use Rattle.flow_object.specs.Object.{Object, nodes_in, no_stops, stops_in}
 use Rattle.flow_object.specs.Standing.{StandsFor}
 use Rattle.flow_sum.specs.Run.{Run, alone, members, with_one_more}
 use Rattle.suri_run.specs.Plain.{verdicts_of}

@@ -1,5 +1,4 @@
 use Rattle.std.proofs.Common.{◌≡◌, ◌≤◌, ◌∙◌, sym, ap, arith}
-use Rattle.suri_base.specs.declared.stream.Offer.TheVariants.{NeedsSegment}
 use Rattle.flow_object.specs.Object.{Object, nodes_in, stops_in}
 use Rattle.flow_sum.specs.Run.{members, with_one_more}
 use Rattle.suri_run.specs.Plain.{verdicts_of}
