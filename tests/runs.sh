@@ -32,7 +32,8 @@ for capture in first tagged web; do
 done
 expect 'netflow lines' 0 tests/runs/web_netflow.txt '' --netflow
 expect 'a depth and a seed' 0 tests/runs/web_shallow.txt '' --depth 5 --seed 7
-expect 'options that change no byte' 0 tests/runs/web.txt '' --workers=64 --batch +7
+# more words than a short command line has
+expect 'options that change no byte' 0 tests/runs/web.txt '' --workers=64 --batch +7 --round 1 --rows 16 --memcap 100 --segments 0 --prealloc 0 --recovery 100
 cp examples/tagged.pcap "$work/input"
 expect 'netflow lines with tags' 0 tests/runs/tagged_netflow.txt '' --netflow
 head -c -1 examples/first.pcap >"$work/input"

@@ -1,10 +1,10 @@
--- The fields of a JSON object, of which some may be absent, and the events by which they are sent to a serializer.
-use Rattle.std.specs.Prelude.{◌≡◌, ℕ, Bool, true, if◌then◌else◌, List, [], ◌∷◌, Some, None}
+-- The fields of a JSON object, of which some may be absent, and the tokens by which they are written.
+use Rattle.std.specs.Prelude.{◌≡◌, ℕ, Bool, true, if◌then◌else◌, List, [], ◌∷◌, ◌++◌, Some, None}
 use Rattle.std.specs.declared.option.Option.{Option}
-use Rattle.serde.specs.Event as event
-use Rattle.serde.specs.Event.{Log, Logs}
-use Rattle.serde.specs.declared.name.Case.TheVariants.{AsIs}
-use Rattle.serde_json.specs.Events.{number_event}
+use Rattle.json.specs.Token as token
+use Rattle.json.specs.Token.{Token}
+use Rattle.json.specs.Written.{Written}
+use Rattle.serde_json.specs.Written.{number_text}
 use Rattle.serde_json.specs.Data.{Data, null, boolean, number, string, array, object, unsigned, Items, no_items, item, Members, no_members, member}
 
 -- a key, and the value where there is one
@@ -38,31 +38,36 @@ members_of (f ∷ fs) = member_if f.0 f.1 (members_of fs)
 abbrev pub object_of : List Field → Data
 object_of fields = object (members_of fields)
 
--- the events of a value; no size is told in advance
+-- a token more was written, behind what stood before
+pub record Adds (old new : Written) (t : Token) : Type 0 where
+  pub before : new.before ≡ old.before
+  pub tokens : new.tokens ≡ old.tokens ++ t ∷ []
+
+-- a value was written, token by token
 abbrev mutual
-  pub SendsData : Data → Log → Log → Type 0
-  SendsData null old new = Logs old new event.nothing
-  SendsData (boolean b) old new = Logs old new (event.boolean b)
-  SendsData (number n) old new = Logs old new (number_event n)
-  SendsData (string s) old new = Logs old new (event.text s)
-  SendsData (array ds) old new = (first : Log) × Logs old first (event.seq_begins None) × SendsItems ds first new
-  SendsData (object ms) old new = (first : Log) × Logs old first (event.map_begins None) × SendsMembers ms first new
+  pub WritesData : Data → Written → Written → Type 0
+  WritesData null old new = Adds old new token.null
+  WritesData (boolean b) old new = Adds old new (token.boolean b)
+  WritesData (number n) old new = Adds old new (token.number (number_text n))
+  WritesData (string s) old new = Adds old new (token.string s)
+  WritesData (array ds) old new = (first : Written) × Adds old first token.begin_array × WritesItems ds first new
+  WritesData (object ms) old new = (first : Written) × Adds old first token.begin_object × WritesMembers ms first new
 
   -- with the end
-  pub SendsItems : Items → Log → Log → Type 0
-  SendsItems no_items old new = Logs old new event.seq_ends
-  SendsItems (item d ds) old new = (mid : Log) × SendsData d old mid × SendsItems ds mid new
+  pub WritesItems : Items → Written → Written → Type 0
+  WritesItems no_items old new = Adds old new token.end_array
+  WritesItems (item d ds) old new = (mid : Written) × WritesData d old mid × WritesItems ds mid new
 
-  pub SendsMembers : Members → Log → Log → Type 0
-  SendsMembers no_members old new = Logs old new event.map_ends
-  SendsMembers (member k d ms) old new = (named mid : Log) × Logs old named (event.field_key k AsIs) × SendsData d named mid × SendsMembers ms mid new
+  pub WritesMembers : Members → Written → Written → Type 0
+  WritesMembers no_members old new = Adds old new token.end_object
+  WritesMembers (member k d ms) old new = (named mid : Written) × Adds old named (token.key k) × WritesData d named mid × WritesMembers ms mid new
 
 -- a key and its value, where there is one; else nothing
-abbrev pub SendsIf : List ℕ → Option Data → Log → Log → Type 0
-SendsIf key None old new = new ≡ old
-SendsIf key (Some d) old new = (named : Log) × Logs old named (event.field_key key AsIs) × SendsData d named new
+abbrev pub WritesIf : List ℕ → Option Data → Written → Written → Type 0
+WritesIf key None old new = new ≡ old
+WritesIf key (Some d) old new = (named : Written) × Adds old named (token.key key) × WritesData d named new
 
 -- one field after another, without the end
-abbrev pub SendsFields : List Field → Log → Log → Type 0
-SendsFields [] old new = new ≡ old
-SendsFields (f ∷ fs) old new = (mid : Log) × SendsIf f.0 f.1 old mid × SendsFields fs mid new
+abbrev pub WritesFields : List Field → Written → Written → Type 0
+WritesFields [] old new = new ≡ old
+WritesFields (f ∷ fs) old new = (mid : Written) × WritesIf f.0 f.1 old mid × WritesFields fs mid new

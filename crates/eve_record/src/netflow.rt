@@ -1,6 +1,6 @@
 //! The netflow lines of a record.
 ghost use Rattle.community_id.specs.Community.{community_bytes, community_text};
-ghost use Rattle.eve_record.specs.Fields.{SendsData, SendsFields, SendsIf};
+ghost use Rattle.eve_record.specs.Fields.{WritesData, WritesFields, WritesIf};
 ghost use Rattle.suri_base.specs.Keys.{IsNameable};
 ghost use Rattle.eve_record.specs.NetflowLine.{
   dir_age,
@@ -23,16 +23,16 @@ ghost use Rattle.std.specs.Prelude.{◌≡◌, IfOk, OnOk, Some, codes};
 
 use crate::address::ip_text;
 use crate::digits::ascii_text;
-use crate::fields::{count, text};
+use crate::fields::{close, count, key, open, text, writer};
 use crate::parts::{
-    Parts, dest, direction, send_code, send_flag, send_flag_fields, send_flags, send_front,
-    send_kind, send_source, send_vlans, source,
+    Parts, dest, direction, source, write_code, write_flag, write_flag_fields, write_flags,
+    write_front, write_kind, write_source, write_vlans,
 };
 use crate::time::utc_text;
 use community_id::community;
 use flow_object::FlowLine;
 use flow_sum::Dir;
-use serde::{Described, Serialize, Serializer};
+use json::Writer;
 use std::alloc::Global;
 use suri_base::protocol::TCP;
 use suri_base::tcp_flag::{SYN, URG};
@@ -54,10 +54,10 @@ fn age(dir: &Dir) -> u64
     dir.end.saturating_sub(dir.start) / NANOSECONDS
 }
 
-// Sends the fields of a direction up to its greatest TTL.
-fn send_dir_front<S: Serializer>(out: &mut S, dir: &Dir, end: &str) -> Result<(), S::Error>
+// Writes the fields of a direction up to its greatest TTL.
+fn write_dir_front(out: &mut Writer, dir: &Dir, end: &str) -> Result<(), NoMemory>
     ensures { OnOk result
-        (SendsFields (dir_front dir.now end.now) (S.written out.old) (S.written out.new)) }
+        (WritesFields (dir_front dir.now end.now) out.old out.new) }
 {
     let max_ttl = u64::from(dir.max_ttl);
     count(out, "age", age(dir))?;
@@ -66,10 +66,10 @@ fn send_dir_front<S: Serializer>(out: &mut S, dir: &Dir, end: &str) -> Result<()
     count(out, "max_ttl", max_ttl)
 }
 
-// Sends the rest of them.
-fn send_dir_back<S: Serializer>(out: &mut S, dir: &Dir, start: &str) -> Result<(), S::Error>
+// Writes the rest of them.
+fn write_dir_back(out: &mut Writer, dir: &Dir, start: &str) -> Result<(), NoMemory>
     ensures { OnOk result
-        (SendsFields (dir_back dir.now start.now) (S.written out.old) (S.written out.new)) }
+        (WritesFields (dir_back dir.now start.now) out.old out.new) }
 {
     let min_ttl = u64::from(dir.min_ttl);
     count(out, "min_ttl", min_ttl)?;
@@ -77,101 +77,100 @@ fn send_dir_back<S: Serializer>(out: &mut S, dir: &Dir, start: &str) -> Result<(
     text(out, "start", start)
 }
 
-// Sends the object of a direction, where its start and end have these texts.
-fn send_dir<S: Serializer>(out: &mut S, dir: &Dir, start: &str, end: &str) -> Result<(), S::Error>
+// Writes the object of a direction, where its start and end have these texts.
+fn write_dir(out: &mut Writer, dir: &Dir, start: &str, end: &str) -> Result<(), NoMemory>
     ensures { OnOk result
-        (SendsData (dir_data dir.now start.now end.now) (S.written out.old) (S.written out.new)) }
+        (WritesData (dir_data dir.now start.now end.now) out.old out.new) }
 {
-    out.begin_map(None)?;
-    send_dir_front(out, dir, end)?;
-    send_dir_back(out, dir, start)?;
-    out.end_map()
+    open(out)?;
+    write_dir_front(out, dir, end)?;
+    write_dir_back(out, dir, start)?;
+    close(out)
 }
 
-// Sends the object `netflow`.
-fn send_netflow<S: Serializer>(out: &mut S, event: &NetflowEvent<'_>) -> Result<(), S::Error>
-    ensures { OnOk result (SendsIf (codes "netflow")
+// Writes the object `netflow`.
+fn write_netflow(out: &mut Writer, event: &NetflowEvent<'_>) -> Result<(), NoMemory>
+    ensures { OnOk result (WritesIf (codes "netflow")
         (Some (dir_data (direction_of event.now.parts.line.now.sums event.now.way) event.now.parts.start.now event.now.parts.end.now))
-        (S.written out.old) (S.written out.new)) }
+        out.old out.new) }
 {
     let dir = direction(&event.parts.line.sums, event.way);
-    out.key("netflow")?;
-    send_dir(out, &dir, event.parts.start, event.parts.end)
+    key(out, "netflow")?;
+    write_dir(out, &dir, event.parts.start, event.parts.end)
 }
 
-// Sends the flags from SYN on.
-fn send_flags_back<S: Serializer>(out: &mut S, flags: u8) -> Result<(), S::Error>
+// Writes the flags from SYN on.
+fn write_flags_back(out: &mut Writer, flags: u8) -> Result<(), NoMemory>
     ensures { OnOk result
-        (SendsFields (flags_back flags) (S.written out.old) (S.written out.new)) }
+        (WritesFields (flags_back flags) out.old out.new) }
 {
-    send_flag(out, "syn", SYN, flags)?;
-    send_flags(out, "tcp_flags", flags)?;
-    send_flag(out, "urg", URG, flags)
+    write_flag(out, "syn", SYN, flags)?;
+    write_flags(out, "tcp_flags", flags)?;
+    write_flag(out, "urg", URG, flags)
 }
 
-// Sends the object `tcp` of these flags.
-fn send_flags_object<S: Serializer>(out: &mut S, flags: u8) -> Result<(), S::Error>
+// Writes the object `tcp` of these flags.
+fn write_flags_object(out: &mut Writer, flags: u8) -> Result<(), NoMemory>
     ensures { OnOk result
-        (SendsData (flags_data flags) (S.written out.old) (S.written out.new)) }
+        (WritesData (flags_data flags) out.old out.new) }
 {
-    out.begin_map(None)?;
-    send_flag_fields(out, flags)?;
-    send_flags_back(out, flags)?;
-    out.end_map()
+    open(out)?;
+    write_flag_fields(out, flags)?;
+    write_flags_back(out, flags)?;
+    close(out)
 }
 
-// Sends it, for TCP alone.
-fn send_tcp<S: Serializer>(out: &mut S, proto: u8, flags: u8) -> Result<(), S::Error>
-    ensures { OnOk result (SendsIf (codes "tcp") (flags_part proto flags)
-        (S.written out.old) (S.written out.new)) }
+// Writes it, for TCP alone.
+fn write_tcp(out: &mut Writer, proto: u8, flags: u8) -> Result<(), NoMemory>
+    ensures { OnOk result (WritesIf (codes "tcp") (flags_part proto flags)
+        out.old out.new) }
 {
     if proto != TCP {
         return Ok(());
     }
-    out.key("tcp")?;
-    send_flags_object(out, flags)
+    key(out, "tcp")?;
+    write_flags_object(out, flags)
 }
 
-// Sends the fields up to `netflow`.
-fn send_middle<S: Serializer>(out: &mut S, event: &NetflowEvent<'_>) -> Result<(), S::Error>
-    ensures { OnOk result (SendsFields
+// Writes the fields up to `netflow`.
+fn write_middle(out: &mut Writer, event: &NetflowEvent<'_>) -> Result<(), NoMemory>
+    ensures { OnOk result (WritesFields
         (netflow_middle event.now.parts.line.now event.now.way event.now.parts.start.now event.now.parts.end.now)
-        (S.written out.old) (S.written out.new)) }
+        out.old out.new) }
 {
     let sums = &event.parts.line.sums;
     let first = u64::from(sums.first_no);
     count(out, "flow_id", first)?;
-    send_code(out, sums.icmp)?;
-    send_kind(out, sums.icmp)?;
-    send_netflow(out, event)
+    write_code(out, sums.icmp)?;
+    write_kind(out, sums.icmp)?;
+    write_netflow(out, event)
 }
 
-// Sends the fields behind who sends.
-fn send_back<S: Serializer>(out: &mut S, event: &NetflowEvent<'_>) -> Result<(), S::Error>
-    ensures { OnOk result (SendsFields
+// Writes the fields behind who sends.
+fn write_back(out: &mut Writer, event: &NetflowEvent<'_>) -> Result<(), NoMemory>
+    ensures { OnOk result (WritesFields
         (netflow_back event.now.parts.line.now event.now.way event.now.parts.end.now)
-        (S.written out.old) (S.written out.new)) }
+        out.old out.new) }
 {
     let sums = &event.parts.line.sums;
     let flags = direction(sums, event.way).flags;
-    send_tcp(out, sums.key.proto, flags)?;
+    write_tcp(out, sums.key.proto, flags)?;
     text(out, "timestamp", event.parts.end)?;
-    send_vlans(out, &sums.key.vlans)
+    write_vlans(out, &sums.key.vlans)
 }
 
-impl Described for NetflowEvent<'_> {
-    ghost writes = { λ e. SendsData (netflow_data e.parts.line.now e.way e.parts.community.now e.parts.source.now e.parts.dest.now e.parts.start.now e.parts.end.now) };
-}
-
-impl Serialize for NetflowEvent<'_> {
-    fn serialize<S: Serializer>(&self, out: &mut S) -> Result<(), S::Error> {
-        out.begin_map(None)?;
-        send_front(out, &self.parts, self.way, "netflow")?;
-        send_middle(out, self)?;
-        send_source(out, &self.parts, self.way)?;
-        send_back(out, self)?;
-        out.end_map()
-    }
+// Writes the object of the whole line.
+fn write_line(out: &mut Writer, event: &NetflowEvent<'_>) -> Result<(), NoMemory>
+    ensures { OnOk result (WritesData (netflow_data event.now.parts.line.now event.now.way
+        event.now.parts.community.now event.now.parts.source.now event.now.parts.dest.now
+        event.now.parts.start.now event.now.parts.end.now) out.old out.new) }
+{
+    open(out)?;
+    write_front(out, &event.parts, event.way, "netflow")?;
+    write_middle(out, event)?;
+    write_source(out, &event.parts, event.way)?;
+    write_back(out, event)?;
+    close(out)
 }
 
 // The JSON text of a line.
@@ -180,10 +179,9 @@ fn json(alloc: Global, event: &NetflowEvent<'_>) -> Result<Vec<u8>, NoMemory>
         event.now.parts.community.now event.now.parts.source.now event.now.parts.dest.now
         event.now.parts.start.now event.now.parts.end.now)) }
 {
-    match serde_json::to_vec(alloc, event) {
-        Ok(text) => Ok(text),
-        Err(_) => Err(NoMemory),
-    }
+    let mut out = writer(alloc)?;
+    write_line(&mut out, event)?;
+    Ok(out.into_inner())
 }
 
 // The line of a direction of a flow with this Community ID.

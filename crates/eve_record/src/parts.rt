@@ -1,5 +1,5 @@
 //! What the lines of a flow record have in common.
-ghost use Rattle.eve_record.specs.Fields.{SendsFields, SendsIf, count};
+ghost use Rattle.eve_record.specs.Fields.{WritesFields, WritesIf, count};
 ghost use Rattle.eve_record.specs.Parts.{
   app_data,
   client_end,
@@ -19,14 +19,14 @@ ghost use Rattle.serde_json.specs.Data.{string};
 ghost use Rattle.std.specs.Prelude.{◌≡◌, ◌≤◌, OnOk, Some, codes, option_map};
 
 use crate::digits::{ascii_text, two_hex};
-use crate::fields::{count, text, truth};
+use crate::fields::{close_list, count, key, number, open_list, text, truth};
 use crate::names::proto_name;
 use flow_object::FlowLine;
 use flow_sum::{Dir, Sums};
-use serde::Serializer;
+use json::Writer;
 use suri_base::protocol::{TCP, UDP};
 use suri_base::tcp_flag::{ACK, CWR, ECE, FIN, PSH, RST};
-use suri_base::{App, End, IcmpFacts, Side, Vlans, Way};
+use suri_base::{App, End, IcmpFacts, NoMemory, Side, Vlans, Way};
 
 /// What a line is made of: a flow record, and the texts that were made of it for the direction or both directions of
 /// which the line tells. A line of both goes from the client to the server.
@@ -97,10 +97,10 @@ pub fn direction(sums: &Sums, way: Way) -> Dir
     }
 }
 
-// Sends a port, for TCP and UDP.
-fn send_port<S: Serializer>(out: &mut S, key: &str, proto: u8, port: u16) -> Result<(), S::Error>
-    ensures { OnOk result (SendsIf key.now (port_data proto port)
-        (S.written out.old) (S.written out.new)) }
+// Writes a port, for TCP and UDP.
+fn write_port(out: &mut Writer, key: &str, proto: u8, port: u16) -> Result<(), NoMemory>
+    ensures { OnOk result (WritesIf key.now (port_data proto port)
+        out.old out.new) }
 {
     if proto == TCP || proto == UDP {
         count(out, key, u64::from(port))
@@ -109,10 +109,10 @@ fn send_port<S: Serializer>(out: &mut S, key: &str, proto: u8, port: u16) -> Res
     }
 }
 
-// Sends the application protocol, where one was seen.
-fn send_app<S: Serializer>(out: &mut S, app: App) -> Result<(), S::Error>
-    ensures { OnOk result (SendsIf (codes "app_proto") (app_data app)
-        (S.written out.old) (S.written out.new)) }
+// Writes the application protocol, where one was seen.
+fn write_app(out: &mut Writer, app: App) -> Result<(), NoMemory>
+    ensures { OnOk result (WritesIf (codes "app_proto") (app_data app)
+        out.old out.new) }
 {
     match app {
         App::None => Ok(()),
@@ -123,10 +123,10 @@ fn send_app<S: Serializer>(out: &mut S, app: App) -> Result<(), S::Error>
     }
 }
 
-/// Sends the code of an ICMP header (RFC 792; RFC 4443, section 2.1), where there is one.
-pub fn send_code<S: Serializer>(out: &mut S, icmp: Option<IcmpFacts>) -> Result<(), S::Error>
-    ensures { OnOk result (SendsIf (codes "icmp_code") (option_map (λ i. count i.code) icmp)
-        (S.written out.old) (S.written out.new)) }
+/// Writes the code of an ICMP header (RFC 792; RFC 4443, section 2.1), where there is one.
+pub fn write_code(out: &mut Writer, icmp: Option<IcmpFacts>) -> Result<(), NoMemory>
+    ensures { OnOk result (WritesIf (codes "icmp_code") (option_map (λ i. count i.code) icmp)
+        out.old out.new) }
 {
     match icmp {
         None => Ok(()),
@@ -134,10 +134,10 @@ pub fn send_code<S: Serializer>(out: &mut S, icmp: Option<IcmpFacts>) -> Result<
     }
 }
 
-/// Sends its type, where there is one.
-pub fn send_kind<S: Serializer>(out: &mut S, icmp: Option<IcmpFacts>) -> Result<(), S::Error>
-    ensures { OnOk result (SendsIf (codes "icmp_type") (option_map (λ i. count i.kind) icmp)
-        (S.written out.old) (S.written out.new)) }
+/// Writes its type, where there is one.
+pub fn write_kind(out: &mut Writer, icmp: Option<IcmpFacts>) -> Result<(), NoMemory>
+    ensures { OnOk result (WritesIf (codes "icmp_type") (option_map (λ i. count i.kind) icmp)
+        out.old out.new) }
 {
     match icmp {
         None => Ok(()),
@@ -145,100 +145,100 @@ pub fn send_kind<S: Serializer>(out: &mut S, icmp: Option<IcmpFacts>) -> Result<
     }
 }
 
-// Sends the ids of three VLAN tags.
-fn send_three<S: Serializer>(out: &mut S, vlans: &Vlans) -> Result<(), S::Error>
+// Writes the ids of three VLAN tags.
+fn write_three(out: &mut Writer, vlans: &Vlans) -> Result<(), NoMemory>
     requires { 3 ≤ vlans.now.count }
-    ensures { OnOk result (SendsIf (codes "vlan") (vlan_data vlans.now)
-        (S.written out.old) (S.written out.new)) }
+    ensures { OnOk result (WritesIf (codes "vlan") (vlan_data vlans.now)
+        out.old out.new) }
 {
-    out.key("vlan")?;
-    out.begin_seq(None)?;
-    out.u64(u64::from(vlans.first))?;
-    out.u64(u64::from(vlans.second))?;
-    out.u64(u64::from(vlans.third))?;
-    out.end_seq()
+    key(out, "vlan")?;
+    open_list(out)?;
+    number(out, u64::from(vlans.first))?;
+    number(out, u64::from(vlans.second))?;
+    number(out, u64::from(vlans.third))?;
+    close_list(out)
 }
 
-/// Sends the VLAN ids, where there is a tag (IEEE 802.1Q, section 9.6).
-pub fn send_vlans<S: Serializer>(out: &mut S, vlans: &Vlans) -> Result<(), S::Error>
-    ensures { OnOk result (SendsIf (codes "vlan") (vlan_data vlans.now)
-        (S.written out.old) (S.written out.new)) }
+/// Writes the VLAN ids, where there is a tag (IEEE 802.1Q, section 9.6).
+pub fn write_vlans(out: &mut Writer, vlans: &Vlans) -> Result<(), NoMemory>
+    ensures { OnOk result (WritesIf (codes "vlan") (vlan_data vlans.now)
+        out.old out.new) }
 {
     match vlans.count {
         0 => Ok(()),
         1 => {
-            out.key("vlan")?;
-            out.begin_seq(None)?;
-            out.u64(u64::from(vlans.first))?;
-            out.end_seq()
+            key(out, "vlan")?;
+            open_list(out)?;
+            number(out, u64::from(vlans.first))?;
+            close_list(out)
         }
         2 => {
-            out.key("vlan")?;
-            out.begin_seq(None)?;
-            out.u64(u64::from(vlans.first))?;
-            out.u64(u64::from(vlans.second))?;
-            out.end_seq()
+            key(out, "vlan")?;
+            open_list(out)?;
+            number(out, u64::from(vlans.first))?;
+            number(out, u64::from(vlans.second))?;
+            close_list(out)
         }
-        _ => send_three(out, vlans),
+        _ => write_three(out, vlans),
     }
 }
 
-/// Sends a field that is a byte of TCP flags.
-pub fn send_flags<S: Serializer>(out: &mut S, key: &str, flags: u8) -> Result<(), S::Error>
-    ensures { OnOk result (SendsIf key.now (Some (string (flags_text flags)))
-        (S.written out.old) (S.written out.new)) }
+/// Writes a field that is a byte of TCP flags.
+pub fn write_flags(out: &mut Writer, key: &str, flags: u8) -> Result<(), NoMemory>
+    ensures { OnOk result (WritesIf key.now (Some (string (flags_text flags)))
+        out.old out.new) }
 {
     text(out, key, ascii_text(&two_hex(flags)))
 }
 
-/// Sends the field of a flag, where it is among the flags.
-pub fn send_flag<S: Serializer>(out: &mut S, key: &str, flag: u8, flags: u8) -> Result<(), S::Error>
+/// Writes the field of a flag, where it is among the flags.
+pub fn write_flag(out: &mut Writer, key: &str, flag: u8, flags: u8) -> Result<(), NoMemory>
     ensures { OnOk result
-        (SendsIf key.now (flag_data flag flags) (S.written out.old) (S.written out.new)) }
+        (WritesIf key.now (flag_data flag flags) out.old out.new) }
 {
     truth(out, key, flags & flag == flag)
 }
 
-/// Sends the fields of the flags from ACK to RST, in order of their keys.
-pub fn send_flag_fields<S: Serializer>(out: &mut S, flags: u8) -> Result<(), S::Error>
+/// Writes the fields of the flags from ACK to RST, in order of their keys.
+pub fn write_flag_fields(out: &mut Writer, flags: u8) -> Result<(), NoMemory>
     ensures { OnOk result
-        (SendsFields (flag_fields flags) (S.written out.old) (S.written out.new)) }
+        (WritesFields (flag_fields flags) out.old out.new) }
 {
-    send_flag(out, "ack", ACK, flags)?;
-    send_flag(out, "cwr", CWR, flags)?;
-    send_flag(out, "ecn", ECE, flags)?;
-    send_flag(out, "fin", FIN, flags)?;
-    send_flag(out, "psh", PSH, flags)?;
-    send_flag(out, "rst", RST, flags)
+    write_flag(out, "ack", ACK, flags)?;
+    write_flag(out, "cwr", CWR, flags)?;
+    write_flag(out, "ecn", ECE, flags)?;
+    write_flag(out, "fin", FIN, flags)?;
+    write_flag(out, "psh", PSH, flags)?;
+    write_flag(out, "rst", RST, flags)
 }
 
-/// Sends the fields with which a line begins whose event has this name.
-pub fn send_front<S: Serializer>(
-    out: &mut S,
+/// Writes the fields with which a line begins whose event has this name.
+pub fn write_front(
+    out: &mut Writer,
     parts: &Parts<'_>,
     way: Way,
     event: &str,
-) -> Result<(), S::Error>
-    ensures { OnOk result (SendsFields
+) -> Result<(), NoMemory>
+    ensures { OnOk result (WritesFields
         (line_front parts.now.line.now way parts.now.community.now parts.now.dest.now event.now)
-        (S.written out.old) (S.written out.new)) }
+        out.old out.new) }
 {
     let sums = &parts.line.sums;
-    send_app(out, parts.line.app)?;
+    write_app(out, parts.line.app)?;
     text(out, "community_id", parts.community)?;
     text(out, "dest_ip", parts.dest)?;
-    send_port(out, "dest_port", sums.key.proto, dest(sums, way).port)?;
+    write_port(out, "dest_port", sums.key.proto, dest(sums, way).port)?;
     text(out, "event_type", event)
 }
 
-/// Sends the fields of the protocol and of who sends.
-pub fn send_source<S: Serializer>(out: &mut S, parts: &Parts<'_>, way: Way) -> Result<(), S::Error>
-    ensures { OnOk result (SendsFields
+/// Writes the fields of the protocol and of who sends.
+pub fn write_source(out: &mut Writer, parts: &Parts<'_>, way: Way) -> Result<(), NoMemory>
+    ensures { OnOk result (WritesFields
         (line_source parts.now.line.now way parts.now.source.now)
-        (S.written out.old) (S.written out.new)) }
+        out.old out.new) }
 {
     let sums = &parts.line.sums;
     text(out, "proto", proto_name(sums.key.proto))?;
     text(out, "src_ip", parts.source)?;
-    send_port(out, "src_port", sums.key.proto, source(sums, way).port)
+    write_port(out, "src_port", sums.key.proto, source(sums, way).port)
 }

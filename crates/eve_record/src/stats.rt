@@ -1,5 +1,5 @@
 //! The stats line.
-ghost use Rattle.eve_record.specs.Fields.{SendsData, SendsFields, SendsIf};
+ghost use Rattle.eve_record.specs.Fields.{WritesData, WritesFields, WritesIf};
 ghost use Rattle.eve_record.specs.StatsLine.{
   capture_data,
   decoder_back,
@@ -17,37 +17,30 @@ ghost use Rattle.serde_json.specs.Written.{compact_text};
 ghost use Rattle.std.specs.Prelude.{◌≡◌, IfOk, OnOk, Some, codes};
 
 use crate::digits::ascii_text;
-use crate::fields::{count, text};
+use crate::fields::{close, count, key, open, text, writer};
 use crate::time::utc_text;
+use json::Writer;
 use run_laws::Stats;
-use serde::{Described, Serialize, Serializer};
 use std::alloc::Global;
 use suri_base::NoMemory;
 
-/// A stats line whose time has this text.
-#[derive(Drop)]
-struct StatsEvent<'a> {
-    stats: &'a Stats,
-    time: &'a str,
-}
-
-// Sends the object `capture`.
-fn send_capture<S: Serializer>(out: &mut S, stats: &Stats) -> Result<(), S::Error>
-    ensures { OnOk result (SendsIf (codes "capture") (Some (capture_data stats.now))
-        (S.written out.old) (S.written out.new)) }
+// Writes the object `capture`.
+fn write_capture(out: &mut Writer, stats: &Stats) -> Result<(), NoMemory>
+    ensures { OnOk result (WritesIf (codes "capture") (Some (capture_data stats.now))
+        out.old out.new) }
 {
-    out.key("capture")?;
-    out.begin_map(None)?;
+    key(out, "capture")?;
+    open(out)?;
     count(out, "bytes", stats.capture_bytes)?;
     count(out, "cut_bytes", stats.cut_bytes)?;
     count(out, "frames", stats.frames)?;
-    out.end_map()
+    close(out)
 }
 
-// Sends the counters up to the IP headers.
-fn send_counters_front<S: Serializer>(out: &mut S, stats: &Stats) -> Result<(), S::Error>
+// Writes the counters up to the IP headers.
+fn write_counters_front(out: &mut Writer, stats: &Stats) -> Result<(), NoMemory>
     ensures { OnOk result
-        (SendsFields (decoder_front stats.now) (S.written out.old) (S.written out.new)) }
+        (WritesFields (decoder_front stats.now) out.old out.new) }
 {
     count(out, "ethertype", stats.ethertype)?;
     count(out, "fragment", stats.fragment)?;
@@ -56,10 +49,10 @@ fn send_counters_front<S: Serializer>(out: &mut S, stats: &Stats) -> Result<(), 
     count(out, "ip_header", stats.ip_header)
 }
 
-// Sends the counters up to the other protocols.
-fn send_counters_middle<S: Serializer>(out: &mut S, stats: &Stats) -> Result<(), S::Error>
+// Writes the counters up to the other protocols.
+fn write_counters_middle(out: &mut Writer, stats: &Stats) -> Result<(), NoMemory>
     ensures { OnOk result
-        (SendsFields (decoder_middle stats.now) (S.written out.old) (S.written out.new)) }
+        (WritesFields (decoder_middle stats.now) out.old out.new) }
 {
     count(out, "ip_small", stats.ip_small)?;
     count(out, "ip_version", stats.ip_version)?;
@@ -67,10 +60,10 @@ fn send_counters_middle<S: Serializer>(out: &mut S, stats: &Stats) -> Result<(),
     count(out, "other_proto", stats.other_proto)
 }
 
-// Sends the rest of them.
-fn send_counters_back<S: Serializer>(out: &mut S, stats: &Stats) -> Result<(), S::Error>
+// Writes the rest of them.
+fn write_counters_back(out: &mut Writer, stats: &Stats) -> Result<(), NoMemory>
     ensures { OnOk result
-        (SendsFields (decoder_back stats.now) (S.written out.old) (S.written out.new)) }
+        (WritesFields (decoder_back stats.now) out.old out.new) }
 {
     count(out, "tcp_header", stats.tcp_header)?;
     count(out, "tcp_small", stats.tcp_small)?;
@@ -79,22 +72,22 @@ fn send_counters_back<S: Serializer>(out: &mut S, stats: &Stats) -> Result<(), S
     count(out, "vlan_small", stats.vlan_small)
 }
 
-// Sends the object `decoder`.
-fn send_decoder<S: Serializer>(out: &mut S, stats: &Stats) -> Result<(), S::Error>
+// Writes the object `decoder`.
+fn write_decoder(out: &mut Writer, stats: &Stats) -> Result<(), NoMemory>
     ensures { OnOk result
-        (SendsData (decoder_data stats.now) (S.written out.old) (S.written out.new)) }
+        (WritesData (decoder_data stats.now) out.old out.new) }
 {
-    out.begin_map(None)?;
-    send_counters_front(out, stats)?;
-    send_counters_middle(out, stats)?;
-    send_counters_back(out, stats)?;
-    out.end_map()
+    open(out)?;
+    write_counters_front(out, stats)?;
+    write_counters_middle(out, stats)?;
+    write_counters_back(out, stats)?;
+    close(out)
 }
 
-// Sends the fields of the records up to the packets that found no flow.
-fn send_records_front<S: Serializer>(out: &mut S, stats: &Stats) -> Result<(), S::Error>
+// Writes the fields of the records up to the packets that found no flow.
+fn write_records_front(out: &mut Writer, stats: &Stats) -> Result<(), NoMemory>
     ensures { OnOk result
-        (SendsFields (records_front stats.now) (S.written out.old) (S.written out.new)) }
+        (WritesFields (records_front stats.now) out.old out.new) }
 {
     count(out, "bytes", stats.flow_bytes)?;
     count(out, "emergency", stats.emergency)?;
@@ -104,10 +97,10 @@ fn send_records_front<S: Serializer>(out: &mut S, stats: &Stats) -> Result<(), S
     count(out, "no_flow", stats.no_flow)
 }
 
-// Sends the rest of them.
-fn send_records_back<S: Serializer>(out: &mut S, stats: &Stats) -> Result<(), S::Error>
+// Writes the rest of them.
+fn write_records_back(out: &mut Writer, stats: &Stats) -> Result<(), NoMemory>
     ensures { OnOk result
-        (SendsFields (records_back stats.now) (S.written out.old) (S.written out.new)) }
+        (WritesFields (records_back stats.now) out.old out.new) }
 {
     count(out, "packets", stats.packets)?;
     count(out, "records", stats.records)?;
@@ -117,56 +110,51 @@ fn send_records_back<S: Serializer>(out: &mut S, stats: &Stats) -> Result<(), S:
     count(out, "timeout", stats.timeout)
 }
 
-// Sends the object `flow`.
-fn send_records<S: Serializer>(out: &mut S, stats: &Stats) -> Result<(), S::Error>
+// Writes the object `flow`.
+fn write_records(out: &mut Writer, stats: &Stats) -> Result<(), NoMemory>
     ensures { OnOk result
-        (SendsData (records_data stats.now) (S.written out.old) (S.written out.new)) }
+        (WritesData (records_data stats.now) out.old out.new) }
 {
-    out.begin_map(None)?;
-    send_records_front(out, stats)?;
-    send_records_back(out, stats)?;
-    out.end_map()
+    open(out)?;
+    write_records_front(out, stats)?;
+    write_records_back(out, stats)?;
+    close(out)
 }
 
-// Sends the object `stats`.
-fn send_stats<S: Serializer>(out: &mut S, stats: &Stats) -> Result<(), S::Error>
+// Writes the object `stats`.
+fn write_stats(out: &mut Writer, stats: &Stats) -> Result<(), NoMemory>
     ensures { OnOk result
-        (SendsData (stats_data stats.now) (S.written out.old) (S.written out.new)) }
+        (WritesData (stats_data stats.now) out.old out.new) }
 {
-    out.begin_map(None)?;
-    send_capture(out, stats)?;
-    out.key("decoder")?;
-    send_decoder(out, stats)?;
-    out.key("flow")?;
-    send_records(out, stats)?;
-    out.end_map()
+    open(out)?;
+    write_capture(out, stats)?;
+    key(out, "decoder")?;
+    write_decoder(out, stats)?;
+    key(out, "flow")?;
+    write_records(out, stats)?;
+    close(out)
 }
 
-impl Described for StatsEvent<'_> {
-    ghost writes = { λ e. SendsData (stats_event e.time.now e.stats.now) };
-}
-
+// Writes the object of the whole line, whose time has this text.
 #[tactic(auto, unfolding(crate::specs::StatsLine::stats_event))]
-impl Serialize for StatsEvent<'_> {
-    fn serialize<S: Serializer>(&self, out: &mut S) -> Result<(), S::Error> {
-        out.begin_map(None)?;
-        text(out, "event_type", "stats")?;
-        out.key("stats")?;
-        send_stats(out, self.stats)?;
-        text(out, "timestamp", self.time)?;
-        out.end_map()
-    }
+fn write_line(out: &mut Writer, stats: &Stats, time: &str) -> Result<(), NoMemory>
+    ensures { OnOk result (WritesData (stats_event time.now stats.now) out.old out.new) }
+{
+    open(out)?;
+    text(out, "event_type", "stats")?;
+    key(out, "stats")?;
+    write_stats(out, stats)?;
+    text(out, "timestamp", time)?;
+    close(out)
 }
 
 // The JSON text of a line.
-fn json(alloc: Global, event: &StatsEvent<'_>) -> Result<Vec<u8>, NoMemory>
-    ensures { IfOk result
-        (λ b. b.items ≡ compact_text (stats_event event.now.time.now event.now.stats.now)) }
+fn json(alloc: Global, stats: &Stats, time: &str) -> Result<Vec<u8>, NoMemory>
+    ensures { IfOk result (λ b. b.items ≡ compact_text (stats_event time.now stats.now)) }
 {
-    match serde_json::to_vec(alloc, event) {
-        Ok(text) => Ok(text),
-        Err(_) => Err(NoMemory),
-    }
+    let mut out = writer(alloc)?;
+    write_line(&mut out, stats, time)?;
+    Ok(out.into_inner())
 }
 
 /// The stats line, in bytes, with its line feed.
@@ -179,11 +167,7 @@ pub fn stats_text(alloc: Global, stats: &Stats) -> Result<Vec<u8>, NoMemory>
     ensures { IfOk result (λ b. b.items ≡ stats_line stats.now) }
 {
     let time = utc_text(stats.clock);
-    let event = StatsEvent {
-        stats,
-        time: ascii_text(&time),
-    };
-    let mut text = json(alloc, &event)?;
+    let mut text = json(alloc, stats, ascii_text(&time))?;
     text.push(b'\n')?;
     Ok(text)
 }

@@ -1,5 +1,5 @@
 //! The object `stream` of a flow line.
-ghost use Rattle.eve_record.specs.Fields.{SendsData, SendsFields, SendsIf};
+ghost use Rattle.eve_record.specs.Fields.{WritesData, WritesFields, WritesIf};
 ghost use Rattle.eve_record.specs.FlowLine.{
   stop_data,
   stream_data,
@@ -13,11 +13,11 @@ ghost use Rattle.std.specs.Prelude.{◌≡◌, OnOk, Some, codes};
 ghost use Rattle.std.specs.Str.{IsAscii};
 
 use crate::digits::ascii_text;
-use crate::fields::{count, text};
+use crate::fields::{close, count, key, open, text};
 use flow_object::FlowLine;
-use serde::Serializer;
-use suri_base::StreamLine;
+use json::Writer;
 use suri_base::protocol::TCP;
+use suri_base::{NoMemory, StreamLine};
 
 // A digest in lower-case hexadecimal digits.
 fn digest_text(digest: &[u8; 20]) -> [u8; 40]
@@ -31,10 +31,10 @@ fn digest_text(digest: &[u8; 20]) -> [u8; 40]
     }
 }
 
-// Sends the number of the frame at which a stream was stopped, where it was.
-fn send_stop<S: Serializer>(out: &mut S, stop: u32) -> Result<(), S::Error>
-    ensures { OnOk result (SendsIf (codes "stop") (stop_data stop)
-        (S.written out.old) (S.written out.new)) }
+// Writes the number of the frame at which a stream was stopped, where it was.
+fn write_stop(out: &mut Writer, stop: u32) -> Result<(), NoMemory>
+    ensures { OnOk result (WritesIf (codes "stop") (stop_data stop)
+        out.old out.new) }
 {
     if stop == 0 {
         Ok(())
@@ -43,58 +43,58 @@ fn send_stop<S: Serializer>(out: &mut S, stop: u32) -> Result<(), S::Error>
     }
 }
 
-// Sends the digest.
-fn send_digest<S: Serializer>(out: &mut S, digest: &[u8; 20]) -> Result<(), S::Error>
-    ensures { OnOk result (SendsIf (codes "sha1") (Some (string (encode_lower digest.now)))
-        (S.written out.old) (S.written out.new)) }
+// Writes the digest.
+fn write_digest(out: &mut Writer, digest: &[u8; 20]) -> Result<(), NoMemory>
+    ensures { OnOk result (WritesIf (codes "sha1") (Some (string (encode_lower digest.now)))
+        out.old out.new) }
 {
     text(out, "sha1", ascii_text(&digest_text(digest)))
 }
 
-// Sends the fields of one stream.
-fn send_fields<S: Serializer>(out: &mut S, stream: &StreamLine) -> Result<(), S::Error>
-    ensures { OnOk result (SendsFields (stream_fields stream.now)
-        (S.written out.old) (S.written out.new)) }
+// Writes the fields of one stream.
+fn write_fields(out: &mut Writer, stream: &StreamLine) -> Result<(), NoMemory>
+    ensures { OnOk result (WritesFields (stream_fields stream.now)
+        out.old out.new) }
 {
     let bytes = u64::from(stream.bytes);
     count(out, "bytes", bytes)?;
-    send_digest(out, &stream.digest)?;
-    send_stop(out, stream.stop)
+    write_digest(out, &stream.digest)?;
+    write_stop(out, stream.stop)
 }
 
-// Sends one stream.
-#[tactic(auto, using(crate::proofs::SentText::sends_object), unfolding(crate::specs::FlowLine::stream_data))]
-fn send_stream<S: Serializer>(out: &mut S, stream: &StreamLine) -> Result<(), S::Error>
-    ensures { OnOk result (SendsData (stream_data stream.now)
-        (S.written out.old) (S.written out.new)) }
+// Writes one stream.
+#[tactic(auto, using(crate::proofs::WrittenText::writes_object), unfolding(crate::specs::FlowLine::stream_data))]
+fn write_stream(out: &mut Writer, stream: &StreamLine) -> Result<(), NoMemory>
+    ensures { OnOk result (WritesData (stream_data stream.now)
+        out.old out.new) }
 {
-    out.begin_map(None)?;
-    send_fields(out, stream)?;
-    out.end_map()
+    open(out)?;
+    write_fields(out, stream)?;
+    close(out)
 }
 
-// Sends the object.
+// Writes the object.
 #[tactic(auto, unfolding(crate::specs::FlowLine::streams_data))]
-fn send_both<S: Serializer>(out: &mut S, line: &FlowLine) -> Result<(), S::Error>
-    ensures { OnOk result (SendsData (streams_data line.now)
-        (S.written out.old) (S.written out.new)) }
+fn write_both(out: &mut Writer, line: &FlowLine) -> Result<(), NoMemory>
+    ensures { OnOk result (WritesData (streams_data line.now)
+        out.old out.new) }
 {
-    out.begin_map(None)?;
-    out.key("toclient")?;
-    send_stream(out, &line.tc)?;
-    out.key("toserver")?;
-    send_stream(out, &line.ts)?;
-    out.end_map()
+    open(out)?;
+    key(out, "toclient")?;
+    write_stream(out, &line.tc)?;
+    key(out, "toserver")?;
+    write_stream(out, &line.ts)?;
+    close(out)
 }
 
-/// Sends the object, for TCP alone.
-pub fn send_streams<S: Serializer>(out: &mut S, line: &FlowLine) -> Result<(), S::Error>
-    ensures { OnOk result (SendsIf (codes "stream") (streams_part line.now)
-        (S.written out.old) (S.written out.new)) }
+/// Writes the object, for TCP alone.
+pub fn write_streams(out: &mut Writer, line: &FlowLine) -> Result<(), NoMemory>
+    ensures { OnOk result (WritesIf (codes "stream") (streams_part line.now)
+        out.old out.new) }
 {
     if line.sums.key.proto != TCP {
         return Ok(());
     }
-    out.key("stream")?;
-    send_both(out, line)
+    key(out, "stream")?;
+    write_both(out, line)
 }

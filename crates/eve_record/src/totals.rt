@@ -1,5 +1,5 @@
 //! The object `flow` of the flow line.
-ghost use Rattle.eve_record.specs.Fields.{SendsData, SendsFields};
+ghost use Rattle.eve_record.specs.Fields.{WritesData, WritesFields};
 ghost use Rattle.eve_record.specs.FlowLine.{
   age_of,
   end_of,
@@ -10,11 +10,12 @@ ghost use Rattle.eve_record.specs.FlowLine.{
 };
 ghost use Rattle.std.specs.Prelude.{◌≡◌, OnOk};
 
-use crate::fields::{count, falsehood, text, truth};
+use crate::fields::{close, count, falsehood, open, text, truth};
 use crate::names::{class_name, reason_name};
 use flow_object::FlowLine;
 use flow_sum::Sums;
-use serde::Serializer;
+use json::Writer;
+use suri_base::NoMemory;
 
 const NANOSECONDS: u64 = 1_000_000_000;
 
@@ -45,10 +46,10 @@ fn age(sums: &Sums) -> u64
     end(sums).saturating_sub(start(sums)) / NANOSECONDS
 }
 
-// Sends the fields up to the end.
-fn send_front<S: Serializer>(out: &mut S, line: &FlowLine, end: &str) -> Result<(), S::Error>
+// Writes the fields up to the end.
+fn write_front(out: &mut Writer, line: &FlowLine, end: &str) -> Result<(), NoMemory>
     ensures { OnOk result
-        (SendsFields (totals_front line.now end.now) (S.written out.old) (S.written out.new)) }
+        (WritesFields (totals_front line.now end.now) out.old out.new) }
 {
     count(out, "age", age(&line.sums))?;
     falsehood(out, "alerted")?;
@@ -58,10 +59,10 @@ fn send_front<S: Serializer>(out: &mut S, line: &FlowLine, end: &str) -> Result<
     text(out, "end", end)
 }
 
-// Sends the fields behind the end.
-fn send_back<S: Serializer>(out: &mut S, line: &FlowLine, start: &str) -> Result<(), S::Error>
+// Writes the fields behind the end.
+fn write_back(out: &mut Writer, line: &FlowLine, start: &str) -> Result<(), NoMemory>
     ensures { OnOk result
-        (SendsFields (totals_back line.now start.now) (S.written out.old) (S.written out.new)) }
+        (WritesFields (totals_back line.now start.now) out.old out.new) }
 {
     count(out, "pkts_toclient", line.sums.tc.pkts)?;
     count(out, "pkts_toserver", line.sums.ts.pkts)?;
@@ -70,18 +71,18 @@ fn send_back<S: Serializer>(out: &mut S, line: &FlowLine, start: &str) -> Result
     text(out, "state", class_name(line.class))
 }
 
-/// Sends the object, where start and end have these texts.
-pub fn send_totals<S: Serializer>(
-    out: &mut S,
+/// Writes the object, where start and end have these texts.
+pub fn write_totals(
+    out: &mut Writer,
     line: &FlowLine,
     start: &str,
     end: &str,
-) -> Result<(), S::Error>
+) -> Result<(), NoMemory>
     ensures { OnOk result
-        (SendsData (totals_data line.now start.now end.now) (S.written out.old) (S.written out.new)) }
+        (WritesData (totals_data line.now start.now end.now) out.old out.new) }
 {
-    out.begin_map(None)?;
-    send_front(out, line, end)?;
-    send_back(out, line, start)?;
-    out.end_map()
+    open(out)?;
+    write_front(out, line, end)?;
+    write_back(out, line, start)?;
+    close(out)
 }

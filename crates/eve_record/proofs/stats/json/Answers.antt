@@ -1,10 +1,8 @@
 use Rattle.eve_record.specs.StatsLine.{stats_event}
-use Rattle.eve_record.proofs.FloatFree.{stats_free}
-use Rattle.eve_record.proofs.SentText.{sent_text}
+use Rattle.eve_record.proofs.WrittenText.{written_text}
 use Rattle.eve_record.proofs.stats.json.Goals as goal
 
-pub returns-in-Ok : goal.returns-in-Ok
-returns-in-Ok c =
-    let e = c.args.event.now in
-    let h = c.in-Ok.ensures.events in
-    sent_text (stats_event e.time.now e.stats.now) h.0 c.in-Ok.text.items h.1 h.2 (stats_free e.time.now e.stats.now)
+pub returns : goal.returns
+returns c =
+    written_text (stats_event c.args.time.now c.args.stats.now) c.in_ok-out.out c.write_line.new.out c.into_inner.result.items c.in_ok-out.ensures.before
+    c.in_ok-out.ensures.tokens c.in_ok-write_line.ensures c.into_inner.ensures.items
