@@ -1,7 +1,7 @@
 -- One packet more: the members of its direction grow, and those of the other stay.
-use Rattle.std.proofs.Common.{◌≡◌, ◌≢◌, ℕ, ◌<◌, ◌≤◌, cond, Bool, true, false, List, ◌∷◌, Option, Some, None, refl, sym, ap, ◌∙◌, subst, inl, inr, arith}
+use Rattle.std.proofs.Common.{◌≡◌, ◌≢◌, ℕ, ◌<◌, ◌≤◌, cond, Bool, true, false, List, [], ◌∷◌, Option, Some, None, refl, sym, ap, ◌∙◌, subst, inl, inr, arith}
 use Rattle.std.specs.Prelude.{not}
-use Rattle.reassembly.specs.Kept.{AllLieIn, KeptStream, LiesIn, Stands, newest_of}
+use Rattle.reassembly.specs.Kept.{AllLieIn, KeptStream, Stands, newest_of}
 use Rattle.reassembly.specs.Members.{Member}
 use Rattle.suri_base.specs.App.{payload_of}
 use Rattle.suri_base.specs.Keys.{is_side, other_side}
@@ -30,6 +30,10 @@ is_side-other FromA FromB = refl
 is_side-other FromB FromA = refl
 is_side-other FromB FromB = refl
 
+-- what a stream sees of a packet lies in the bytes
+abbrev pub BringsInside : List ℕ → Facts → Type 0
+BringsInside bytes f = AllLieIn bytes (with_member f.tcp f.no f.pay_at (payload_of bytes f) [])
+
 module _ (bytes : List ℕ) (f : Facts) (older : List Facts) (side : Side) where
   pub grown : is_side f.side side ≡ true
       → members_of bytes side (f ∷ older) ≡ with_member f.tcp f.no f.pay_at (payload_of bytes f) (members_of bytes side older)
@@ -38,16 +42,16 @@ module _ (bytes : List ℕ) (f : Facts) (older : List Facts) (side : Side) where
   pub still : is_side f.side side ≡ false → members_of bytes side (f ∷ older) ≡ members_of bytes side older
   still is = ap (λ (b : Bool). cond b (with_member f.tcp f.no f.pay_at (payload_of bytes f) (members_of bytes side older)) (members_of bytes side older)) is
 
-  with_lies : (tcp : Option TcpFacts) (ms : List Member) → LiesIn bytes f.pay_at (payload_of bytes f) → AllLieIn bytes ms
+  with_lies : (tcp : Option TcpFacts) (ms : List Member) → AllLieIn bytes (with_member tcp f.no f.pay_at (payload_of bytes f) []) → AllLieIn bytes ms
       → AllLieIn bytes (with_member tcp f.no f.pay_at (payload_of bytes f) ms)
   with_lies None ms lies all = all
-  with_lies (Some tcp) ms lies all = (lies, all)
+  with_lies (Some tcp) ms lies all = (lies.0, all)
 
   with_newest : (tcp : Option TcpFacts) (ms : List Member) → newest_of ms ≤ f.no → newest_of (with_member tcp f.no f.pay_at (payload_of bytes f) ms) ≤ f.no
   with_newest None ms h = h
   with_newest (Some tcp) ms h = omega arith
 
-  pub more_lies : LiesIn bytes f.pay_at (payload_of bytes f) → AllLieIn bytes (members_of bytes side older) → AllLieIn bytes (members_of bytes side (f ∷ older))
+  pub more_lies : BringsInside bytes f → AllLieIn bytes (members_of bytes side older) → AllLieIn bytes (members_of bytes side (f ∷ older))
   more_lies lies all = by (is_side f.side side)
     where
       by : (b : Bool) → AllLieIn bytes
@@ -65,7 +69,7 @@ module _ (bytes : List ℕ) (f : Facts) (older : List Facts) (side : Side) where
 
 -- what is kept beside the streams
 pub beside_more : (o new : Object) (bytes : List ℕ) (f : Facts) (r : Run) (judged : List App) → StandsBeside o bytes r judged → r.newest.no < f.no
-    → LiesIn bytes f.pay_at (payload_of bytes f)
+    → BringsInside bytes f
     → new.sums ≡ sums_of (with_one_more f r) → new.state ≡ session_of (with_one_more f r) → new.app ≡ o.app → new.depth ≡ o.depth
     → new.ts.depth ≡ o.ts.depth → new.tc.depth ≡ o.tc.depth
     → StandsBeside new bytes (with_one_more f r) judged
@@ -149,7 +153,7 @@ pub record After (o new : Object) (f : Facts) : Type 0 where
 -- what a stream says of one packet more
 pub record Offered (old new : KeptStream) (bytes : List ℕ) (f : Facts) (answer : Offer) : Type 0 where
   pub setting : new.depth ≡ old.depth
-  pub inside : LiesIn bytes f.pay_at (payload_of bytes f)
+  pub inside : BringsInside bytes f
   pub offer : (older : List Member) → Stands old older → AllLieIn bytes older → newest_of older < f.no
       → answer ≡ offer_to f.tcp f.no f.pay_at (payload_of bytes f) old older
   pub stands : (older : List Member) → Stands old older → AllLieIn bytes older → newest_of older < f.no → answer ≢ NeedsSegment
@@ -176,7 +180,7 @@ to_client_is true e = cc
 
 module _ (o new : Object) (bytes : List ℕ) (f : Facts) (r : Run) (judged : List App) (s : StandsFor o bytes r judged) (after : After o new f)
     (later : o.sums.last_no < f.no)
-    (inside : LiesIn bytes f.pay_at (payload_of bytes f)) where
+    (inside : BringsInside bytes f) where
   newer : r.newest.no < f.no
   newer = let e : o.sums.last_no ≡ r.newest.no = ap (λ (x : Sums). x.last_no) s.beside.sums in omega (arith, e, later)
 

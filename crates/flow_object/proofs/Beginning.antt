@@ -1,7 +1,7 @@
 -- The first packet of a run.
 use Rattle.std.proofs.Common.{◌≡◌, ◌≢◌, ℕ, ◌<◌, true, false, List, [], Option, Some, None, sym, ap, ◌∙◌, subst, arith}
 use Rattle.std.specs.Prelude.{not}
-use Rattle.reassembly.specs.Kept.{KeptStream, LiesIn, Stands}
+use Rattle.reassembly.specs.Kept.{KeptStream, Stands}
 use Rattle.reassembly.specs.Members.{member, offer_of}
 use Rattle.reassembly.proofs.Standing.{first_never}
 use Rattle.suri_base.specs.App.{payload_of}
@@ -19,7 +19,7 @@ use Rattle.tcp_session.specs.declared.state.State.TheVariants as state
 use Rattle.flow_object.specs.Object.{state_after, Object}
 use Rattle.flow_object.specs.Standing.{StandsBeside, StandsFor}
 use Rattle.flow_object.specs.Streams.{offer_to, to_client, to_server, with_member}
-use Rattle.flow_object.proofs.Absorbing.{Offered, grown, is_side-other, more_lies, more_newest, state_grows, still, to_client_is, to_server_is}
+use Rattle.flow_object.proofs.Absorbing.{BringsInside, Offered, grown, is_side-other, more_lies, more_newest, state_grows, still, to_client_is, to_server_is}
 
 -- what became of the rest
 pub record Fresh (new : Object) (f : Facts) : Type 0 where
@@ -38,7 +38,7 @@ never kept bytes f (Some tcp) none = λ needs.
     first_never kept.depth (member f.no tcp f.pay_at (payload_of bytes f))
     (subst (λ (s : ℕ). offer_of kept.depth s [] (member f.no tcp f.pay_at (payload_of bytes f)) ≡ NeedsSegment) none needs)
 
-module _ (new : Object) (bytes : List ℕ) (f : Facts) (fresh : Fresh new f) (some : 0 < f.no) (inside : LiesIn bytes f.pay_at (payload_of bytes f)) where
+module _ (new : Object) (bytes : List ℕ) (f : Facts) (fresh : Fresh new f) (some : 0 < f.no) (inside : BringsInside bytes f) where
   beside : new.ts.depth ≡ new.depth → new.tc.depth ≡ new.depth → StandsBeside new bytes (alone f) []
   beside ts tc = record {
     sums = fresh.sums;

@@ -1,9 +1,9 @@
 //! Packets and the stream of their direction.
 ghost use Rattle.std.specs.Option.{is_some, option_to_list};
-ghost use Rattle.std.specs.Prelude.{◌≡◌, ◌≢◌, ℕ, ◌+◌, ◌<◌, List, length, IfSome, IsSome, Some, if◌then◌else◌};
+ghost use Rattle.std.specs.Prelude.{◌≡◌, ◌≢◌, ℕ, ◌+◌, ◌<◌, [], List, length, IfSome, IsSome, Some, if◌then◌else◌};
 ghost use Rattle.flow_object.specs.Standing.{NewestAsks};
 ghost use Rattle.flow_object.specs.Streams.{offer_to, with_member};
-ghost use Rattle.reassembly.specs.Kept.{AllLieIn, LiesIn, Stands, held, newest_of};
+ghost use Rattle.reassembly.specs.Kept.{AllLieIn, Stands, held, newest_of};
 ghost use Rattle.reassembly.specs.Members.{Member};
 ghost use Rattle.reassembly.specs.declared.spot.Spot.{Spot};
 ghost use Rattle.suri_base.specs.App.{payload_of};
@@ -14,7 +14,7 @@ ghost use Rattle.suri_base.specs.declared.stream.Offer.TheVariants.{NeedsSegment
 use reassembly::Stream;
 use suri_base::{Capture, Facts, Offer, Segment};
 
-/// Offers a packet to the stream of its direction.
+/// Offers a packet to the stream of its direction. One of another protocol than TCP brings nothing, so its payload isn't looked up.
 pub(crate) fn offer(stream: &mut Stream, facts: &Facts, capture: &Capture) -> Offer
     requires facts { HasFacts capture.now facts.now.no facts.now }
     requires known { (older : List Member) × Stands stream.old older × AllLieIn capture.now.bytes older × (newest_of older < facts.now.no) }
@@ -22,7 +22,7 @@ pub(crate) fn offer(stream: &mut Stream, facts: &Facts, capture: &Capture) -> Of
     ensures stop { stream.new.stop ≡ stream.old.stop }
     ensures nodes { held stream.new ≡ held stream.old }
     ensures payload { result ≡ NeedsSegment → IsSome facts.now.tcp × (0 < facts.now.pay_len) }
-    ensures inside { LiesIn capture.now.bytes facts.now.pay_at (payload_of capture.now.bytes facts.now) }
+    ensures inside { AllLieIn capture.now.bytes (with_member facts.now.tcp facts.now.no facts.now.pay_at (payload_of capture.now.bytes facts.now) []) }
     ensures offer { (older : List Member) → Stands stream.old older → AllLieIn capture.now.bytes older → newest_of older < facts.now.no
         → result ≡ offer_to facts.now.tcp facts.now.no facts.now.pay_at (payload_of capture.now.bytes facts.now) stream.old older }
     ensures stands { (older : List Member) → Stands stream.old older → AllLieIn capture.now.bytes older → newest_of older < facts.now.no
@@ -32,9 +32,11 @@ pub(crate) fn offer(stream: &mut Stream, facts: &Facts, capture: &Capture) -> Of
         → result ≡ NeedsSegment
         → NewestAsks stream.new facts.now.no (with_member facts.now.tcp facts.now.no facts.now.pay_at (payload_of capture.now.bytes facts.now) older) }
 {
-    let payload = capture.payload(facts.no);
-    match facts.tcp {
-        Some(tcp) => stream.offer(facts.no, &tcp, payload, facts.pay_at, capture.bytes()),
+    match &facts.tcp {
+        Some(tcp) => {
+            let payload = capture.payload(facts.no);
+            stream.offer(facts.no, tcp, payload, facts.pay_at, capture.bytes())
+        }
         None => Offer::Nothing,
     }
 }

@@ -145,17 +145,16 @@ impl FlowObj {
         ensures no_nodes { nodes_in self.new ≡ 0 }
         ensures begun { StandsFor self.new capture.now.bytes (alone facts.now) [] }
     {
-        let mut ts = Stream::blank(self.depth);
-        let mut tc = Stream::blank(self.depth);
         self.sums = Sums::first(facts);
-        let answer = match self.sums.way(facts.side) {
-            Way::ToServer => offer(&mut ts, facts, capture),
-            Way::ToClient => offer(&mut tc, facts, capture),
-        };
-        self.ts = ts;
-        self.tc = tc;
         self.session = Session::new();
         self.app = App::None;
+        self.ts = Stream::blank(self.depth);
+        self.tc = Stream::blank(self.depth);
+        let way = self.sums.way(facts.side);
+        let answer = match way {
+            Way::ToServer => offer(&mut self.ts, facts, capture),
+            Way::ToClient => offer(&mut self.tc, facts, capture),
+        };
         self.follow(facts);
         answer
     }

@@ -1,12 +1,13 @@
 //! One object through runs that are worked out by hand.
-ghost use Rattle.std.specs.Prelude.{◌≡◌, ◌+◌, ◌<◌, ◌≤◌, List, IfOk, IfSome};
+ghost use Rattle.std.specs.Prelude.{◌≡◌, ◌+◌, ◌<◌, ◌≤◌, List, IfOk, IfSome, Some};
 ghost use Rattle.flow_object.specs.Object.{nodes_in};
 ghost use Rattle.flow_object.specs.Standing.{StandsFor};
 ghost use Rattle.flow_sum.specs.Run.{Run};
 ghost use Rattle.flow_sum.specs.Sums.{InRange};
-ghost use Rattle.suri_base.specs.Capture.{HasFacts, IsSeenOf};
+ghost use Rattle.suri_base.specs.Capture.{HasFacts};
 ghost use Rattle.suri_base.specs.Chain.{IsAlone};
 ghost use Rattle.suri_base.specs.declared.app.App.{App};
+ghost use Rattle.suri_base.specs.declared.seen.Seen.TheVariants.{Bears};
 
 use crate::{Ended, Finished, FlowObj, finish_flow};
 use std::alloc::Global;
@@ -149,9 +150,9 @@ fn frame(no: u32) -> Frame
 }
 
 // A segment whose payload stands at this place among eight bytes.
-fn segment(no: u32, side: Side, flags: u8, seq: u32, at: u32, len: u32) -> Seen
+fn segment(no: u32, side: Side, flags: u8, seq: u32, at: u32, len: u32, next: u32) -> Seen
     requires { at + len ≤ 8 }
-    ensures { IsSeenOf 8 (record { no = no; time = 0; orig = 60; at = 0; len = 0 }) 0 result }
+    ensures { result ≡ Bears (record DATAGRAM { no = no; side = side; key = record (DATAGRAM.key) { proto = 6 }; tcp = Some (record { seq = seq; ack = 0; flags = flags }); pay_at = at; pay_len = len; next = next }) }
 {
     let tcp = TcpFacts { seq, ack: 0, flags };
     Seen::Bears(Facts {
@@ -164,16 +165,18 @@ fn segment(no: u32, side: Side, flags: u8, seq: u32, at: u32, len: u32) -> Seen
         tcp: Some(tcp),
         pay_at: at,
         pay_len: len,
+        next,
         ..DATAGRAM
     })
 }
 
-fn datagram(no: u32, side: Side) -> Seen
-    ensures { IsSeenOf 8 (record { no = no; time = 0; orig = 60; at = 0; len = 0 }) 0 result }
+fn datagram(no: u32, side: Side, next: u32) -> Seen
+    ensures { result ≡ Bears (record DATAGRAM { no = no; side = side; next = next }) }
 {
     Seen::Bears(Facts {
         no,
         side,
+        next,
         ..DATAGRAM
     })
 }
@@ -195,18 +198,18 @@ fn sessions(alloc: Global) -> Result<Capture, NoMemory> {
     ]?;
     let clocks = vec![in alloc; 0, 0, 0, 0, 0, 0, 0, 0, 0, 0]?;
     let seen = vec![in alloc;
-        segment(1, CLIENT, 0x02, 0, 0, 0),
-        segment(2, SERVER, 0x12, 0, 0, 0),
-        segment(3, CLIENT, 0x10, 0, 0, 0),
-        segment(4, CLIENT, 0x11, 0, 0, 0),
-        segment(5, SERVER, 0x10, 0, 0, 0),
-        segment(6, SERVER, 0x11, 0, 0, 0),
-        segment(7, CLIENT, 0x10, 0, 0, 0),
-        datagram(8, CLIENT),
-        datagram(9, SERVER),
-        segment(10, SERVER, 0x12, 0, 0, 0),
+        segment(1, CLIENT, 0x02, 0, 0, 0, 2),
+        segment(2, SERVER, 0x12, 0, 0, 0, 3),
+        segment(3, CLIENT, 0x10, 0, 0, 0, 4),
+        segment(4, CLIENT, 0x11, 0, 0, 0, 5),
+        segment(5, SERVER, 0x10, 0, 0, 0, 6),
+        segment(6, SERVER, 0x11, 0, 0, 0, 7),
+        segment(7, CLIENT, 0x10, 0, 0, 0, 10),
+        datagram(8, CLIENT, 9),
+        datagram(9, SERVER, 0),
+        segment(10, SERVER, 0x12, 0, 0, 0, 0),
     ]?;
-    Ok(Capture::make(bytes, frames, clocks, seen, 0))
+    Capture::of(alloc, bytes, frames, clocks, seen, 0)
 }
 
 // Frames with payload.
@@ -226,18 +229,18 @@ fn streams(alloc: Global) -> Result<Capture, NoMemory> {
     ]?;
     let clocks = vec![in alloc; 0, 0, 0, 0, 0, 0, 0, 0, 0, 0]?;
     let seen = vec![in alloc;
-        segment(1, CLIENT, 0x02, 99, 0, 0),
-        segment(2, CLIENT, 0x18, 102, 2, 1),
-        segment(3, SERVER, 0x12, 500, 0, 0),
-        segment(4, SERVER, 0x18, 503, 6, 2),
-        segment(5, CLIENT, 0x18, 101, 3, 2),
-        segment(6, CLIENT, 0x18, 100, 0, 1),
-        segment(7, CLIENT, 0x18, 1000, 5, 3),
-        segment(8, CLIENT, 0x18, 1010, 0, 1),
-        segment(9, CLIENT, 0x18, 1003, 0, 1),
-        segment(10, SERVER, 0x18, 7, 6, 2),
+        segment(1, CLIENT, 0x02, 99, 0, 0, 2),
+        segment(2, CLIENT, 0x18, 102, 2, 1, 3),
+        segment(3, SERVER, 0x12, 500, 0, 0, 4),
+        segment(4, SERVER, 0x18, 503, 6, 2, 5),
+        segment(5, CLIENT, 0x18, 101, 3, 2, 6),
+        segment(6, CLIENT, 0x18, 100, 0, 1, 7),
+        segment(7, CLIENT, 0x18, 1000, 5, 3, 8),
+        segment(8, CLIENT, 0x18, 1010, 0, 1, 9),
+        segment(9, CLIENT, 0x18, 1003, 0, 1, 10),
+        segment(10, SERVER, 0x18, 7, 6, 2, 0),
     ]?;
-    Ok(Capture::make(bytes, frames, clocks, seen, 0))
+    Capture::of(alloc, bytes, frames, clocks, seen, 0)
 }
 
 fn facts_at(rt: &impl Abort, capture: &Capture, no: u32) -> Facts

@@ -6,6 +6,7 @@ ghost use Rattle.suri_base.specs.Node.{blank};
 
 use crate::memory::NoMemory;
 use std::alloc::Global;
+use std::marker::Model;
 
 /// One node of a segment pool. It stands for payload bytes of one frame that wait for bytes before them.
 #[derive(Drop)]
@@ -26,6 +27,27 @@ pub struct Segment {
     pub less: Option<Box<Segment>>,
     /// The nodes after it.
     pub more: Option<Box<Segment>>,
+}
+
+impl Model for Segment {
+    ghost use Rattle.std.specs.Prelude.{◌+◌};
+    ghost use Rattle.suri_base.specs.Linked.{Linked, linked_code, behind, count};
+
+    ghost Value = { Linked };
+
+    ghost coded = { linked_code };
+
+    ghost view = { λ a. record {
+      node = record { no = a.no; first = a.first; at = a.at; len = a.len; reach = a.reach; height = a.height };
+      less = behind a.less;
+      more = behind a.more;
+    } };
+
+    ghost size = { λ a. count a.less + count a.more + 1 };
+
+    ghost use Rattle.suri_base.specs.Falls.{falls};
+
+    ghost size_decreases = { λ a h. falls a };
 }
 
 impl Segment {

@@ -18,10 +18,11 @@ impl Model for Segments {
     ghost Value = { List Node };
 
     ghost use Rattle.suri_base.specs.Chain.{nodes, IsChain};
+    ghost use Rattle.suri_base.specs.Linked.{behind};
 
-    ghost view = { λ s. nodes s.head };
+    ghost view = { λ s. nodes (behind s.head) };
 
-    ghost invariant = { λ s. IsChain s.head };
+    ghost invariant = { λ s. IsChain (behind s.head) };
 }
 
 impl Segments {

@@ -1,11 +1,6 @@
 pub mod Counts
-pub mod Decode
-pub mod Index
 pub mod Notes
-pub mod Order
-pub mod Plain
 pub mod Report
 pub mod Run
-pub mod Steps
 pub mod Taken
 pub mod Words

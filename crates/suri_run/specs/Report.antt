@@ -1,25 +1,23 @@
 -- What is reported of a capture: its flow records, and the counts of the stats line.
-use Rattle.std.specs.Prelude.{◌≡◌, ℕ, ◌+◌, if◌then◌else◌, List, [], ◌∷◌, ◌++◌, length, sum_by, count_by, flat_map, reverse, Ok}
+use Rattle.std.specs.Prelude.{◌≡◌, ℕ, ◌+◌, if◌then◌else◌, List, [], ◌∷◌, ◌++◌, length, sum_by, count_by, flat_map, Ok}
 use Rattle.suri_base.specs.Capture.{packets_in}
 use Rattle.suri_base.specs.Clock.{clock_of}
 use Rattle.suri_base.specs.Counters.{counted_under}
 use Rattle.suri_base.specs.Keys.{key_list}
 use Rattle.suri_base.specs.declared.counter.Counter.TheVariants.{LinkSmall, VlanSmall, VlanDeep, Ethertype, IpSmall, IpVersion, IpHeader, IpExtensions, Fragment, TcpSmall, TcpHeader, UdpSmall, IcmpSmall, OtherProto}
-use Rattle.suri_base.specs.declared.facts.Facts.{Facts}
 use Rattle.suri_base.specs.declared.key.Key.{Key}
 use Rattle.suri_base.specs.declared.reason.Reason.TheVariants.{Timeout, TcpReuse, Forced, Shutdown}
 use Rattle.suri_base.specs.declared.seen.Seen.{Seen}
 use Rattle.pcap_read.specs.File.{CaptureFile, Reads}
 use Rattle.flow_object.specs.declared.outcome.FlowLine.{FlowLine}
-use Rattle.flow_sum.specs.Run.{members}
 use Rattle.run_laws.specs.Counting.{ended_by}
 use Rattle.run_laws.specs.declared.stats.Stats.{Stats}
 use Rattle.eve_record.specs.FlowLine.{flow_line}
 use Rattle.eve_record.specs.NetflowLine.{netflow_lines}
 use Rattle.eve_record.specs.StatsLine.{stats_line}
 use Rattle.suri_opts.specs.declared.types.Options.{Options}
-use Rattle.suri_run.specs.Index.{captured_of}
-use Rattle.suri_run.specs.Plain.{ArePlain, PlainRun, records_of, with_key}
+use Rattle.capture_index.specs.Index.{captured_of}
+use Rattle.plain_flows.specs.Plain.{ArePlain, PlainRun, in_file_order, records_of, with_key}
 
 -- what became of the frames of a capture with these bytes, which hold this file
 abbrev pub seen_in : List ℕ → CaptureFile → List Seen
@@ -78,10 +76,6 @@ abbrev pub frames_counted : Stats → ℕ
 frames_counted s =
     s.link_small + s.vlan_small + s.vlan_deep + s.ethertype + s.ip_small + s.ip_version + s.ip_header + s.ip_extensions + s.fragment + s.tcp_small
     + s.tcp_header + s.udp_small + s.icmp_small + s.other_proto
-
--- the packets of a run in file order
-abbrev pub in_file_order : PlainRun → List Facts
-in_file_order p = reverse (members p.run)
 
 -- the plain definition: these records and these counts are what is reported of a capture with these bytes, where so many bytes of each stream
 -- are looked at

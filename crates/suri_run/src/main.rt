@@ -4,11 +4,6 @@
 
 mod cause;
 mod counts;
-mod decode;
-mod flow;
-mod flows;
-mod index;
-mod nodes;
 mod notes;
 mod ran;
 mod report;

@@ -21,12 +21,11 @@ ghost use Rattle.suri_run.specs.Run.{IsUnreported};
 ghost use Rattle.suri_run.specs.Taken.{stats_taken};
 
 use crate::cause::Cause;
-use crate::flows::{finish_all, flows_of};
-use crate::index::make_index;
-use crate::nodes::pool_for;
 use crate::tally::count_frames;
+use capture_index::index;
 use flow_object::FlowLine;
 use pcap_read::{Frames, PcapFault, frames};
+use plain_flows::plain_records;
 use run_laws::Stats;
 use std::alloc::Global;
 use suri_base::{Capture, Frame, Reason};
@@ -128,10 +127,8 @@ fn report_of(alloc: Global, bytes: Vec<u8>, file: Frames, depth: u32) -> Result<
     ensures memory { IfErr result (λ c. c ≡ Cause.NoMemory) }
 {
     let capture_bytes = frame_bytes(&file.list);
-    let capture = make_index(alloc, bytes, file)?;
-    let mut pool = pool_for(alloc, &capture)?;
-    let flows = flows_of(alloc, &mut pool, depth, &capture)?;
-    let lines = finish_all(alloc, &mut pool, flows, capture.last_clock())?;
+    let capture = index(alloc, bytes, file)?;
+    let lines = plain_records(alloc, &capture, depth)?;
     let stats = count(&capture, capture_bytes, &lines);
     Ok(Report { lines, stats })
 }

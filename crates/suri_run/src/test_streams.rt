@@ -1,12 +1,7 @@
-//! Runs over TCP captures whose payloads overlap, wait, wrap and end: the streams of their flows, and the nodes that
-//! waiting segments are kept in.
-use crate::flows::{finish_all, flows_of};
-use crate::index::make_index;
-use crate::nodes::pool_for;
+//! Runs over TCP captures whose payloads overlap, wait, wrap and end: the streams of their flows.
 use crate::test_frames::*;
 use crate::test_runs::*;
 use crate::test_texts::*;
-use pcap_read::frames;
 use std::alloc::Global;
 use std::test::Fail;
 
@@ -16,8 +11,6 @@ const OPENING: u8 = 0x02;
 const ANSWERING: u8 = 0x12;
 
 const CARRYING: u8 = 0x18;
-
-const RESETTING: u8 = 0x04;
 
 // An end of the connection of SYN and SYN_ACK.
 #[derive(Clone, Copy)]
@@ -121,39 +114,4 @@ fn in_reverse(alloc: Global) -> Result<Vec<u8>, Fail> {
 fn segments_in_reverse_are_put_in_order(rt: HostRuntime) -> Result<(), Fail> {
     let alloc = rt.alloc();
     assert_text(&rt, alloc, in_reverse(alloc)?, IN_REVERSE)
-}
-
-#[test]
-fn nodes_that_were_taken_are_given_back(rt: HostRuntime) -> Result<(), Fail> {
-    let alloc = rt.alloc();
-    let bytes = capture_sent(
-        alloc,
-        &[
-            (End::Client, OPENING, 9, b""),
-            (End::Server, ANSWERING, 500, b""),
-            // Two segments that wait, and the one that they wait for.
-            (End::Client, CARRYING, 12, b"c"),
-            (End::Client, CARRYING, 11, b"b"),
-            (End::Client, CARRYING, 10, b"a"),
-            // Three that wait to the end, in both streams.
-            (End::Client, CARRYING, 20, b"z"),
-            (End::Server, CARRYING, 510, b"yz"),
-            (End::Server, CARRYING, 520, b"x"),
-            // The connection is reset, and the next one of its key has one that waits too.
-            (End::Server, RESETTING, 501, b""),
-            (End::Client, OPENING, 9000, b""),
-            (End::Client, CARRYING, 9010, b"w"),
-        ],
-    )?;
-    assert!(rt; bytes.len() < 1000);
-    let file = frames(alloc, &bytes)?;
-    let capture = make_index(alloc, bytes, file)?;
-    let mut pool = pool_for(alloc, &capture)?;
-    assert_eq!(rt; pool.spare(), 7);
-    let flows = flows_of(alloc, &mut pool, 1000, &capture)?;
-    assert_eq!(rt; pool.spare(), 3);
-    let lines = finish_all(alloc, &mut pool, flows, capture.last_clock())?;
-    assert_eq!(rt; lines.len(), 2);
-    assert_eq!(rt; pool.spare(), 7);
-    Ok(())
 }

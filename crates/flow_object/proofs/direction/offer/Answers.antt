@@ -1,4 +1,4 @@
-use Rattle.std.proofs.Common.{ℕ, List, Some, Option, length, refl, sym, ap, subst, arith}
+use Rattle.std.proofs.Common.{ℕ, List, [], Some, Option, length, refl, sym, ap, subst, arith}
 use Rattle.std.specs.Prelude.{IsSome}
 use Rattle.reassembly.specs.Kept.{AllLieIn, LiesIn, Stands}
 use Rattle.suri_base.specs.App.{payload_of}
@@ -16,10 +16,11 @@ offer-requires-clause-payload c =
     subst (λ (b : List ℕ). LiesIn b f.pay_at c.payload-payload.result.now) (sym c.bytes.ensures) (subst (LiesIn bytes f.pay_at) (sym same) lies)
 
 pub returns-in-Some-clause-inside : goal.returns-in-Some-clause-inside
-returns-in-Some-clause-inside c = payload_lies c.args.capture.now.bytes c.args.facts.now (c.payload-payload.ensures.inside c.args.facts.now c.requires.facts)
-
-pub returns-in-None-clause-inside : goal.returns-in-None-clause-inside
-returns-in-None-clause-inside c = payload_lies c.args.capture.now.bytes c.args.facts.now (c.payload-payload.ensures.inside c.args.facts.now c.requires.facts)
+returns-in-Some-clause-inside c =
+    let f = c.args.facts.now in
+    let bytes = c.args.capture.now.bytes in
+    let lies = payload_lies bytes f (c.payload-payload.ensures.inside f c.requires.facts) in
+    subst (λ (t : Option TcpFacts). AllLieIn bytes (with_member t f.no f.pay_at (payload_of bytes f) [])) (sym c.in-Some.is) (lies, tt)
 
 pub returns-in-Some-clause-stands : goal.returns-in-Some-clause-stands
 returns-in-Some-clause-stands c = λ older stands lie later other.

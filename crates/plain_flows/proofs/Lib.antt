@@ -1,0 +1,12 @@
+pub mod Carrying
+pub mod Covering
+pub mod Giving
+pub mod Keeping
+pub mod PlainCounts
+pub mod PlainLaws
+pub mod PlainOne
+pub mod PlainPlaces
+pub mod PlainRoom
+pub mod Records
+pub mod SoFar
+pub mod Storing
