@@ -1,0 +1,2 @@
+pub mod PoolHistories
+pub mod Worked
