@@ -1,0 +1,16 @@
+pub mod Beginning
+pub mod Fixing
+pub mod Lasting
+pub mod Newest
+pub mod Opening
+pub mod Owning
+pub mod Rowing
+pub mod Rows
+pub mod Settling
+pub mod Soundness
+pub mod Tested
+pub mod Touching
+pub mod Unlawful
+pub mod Using
+pub mod Waiting
+pub mod Words
