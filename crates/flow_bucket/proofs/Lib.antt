@@ -1,0 +1,16 @@
+pub mod Captured
+pub mod Closing
+pub mod Doing
+pub mod Ending
+pub mod Evicting
+pub mod FlowMap
+pub mod KeyPorts
+pub mod Knowing
+pub mod LookCalls
+pub mod Looking
+pub mod Parting
+pub mod Places
+pub mod Reserving
+pub mod Small
+pub mod Sorting
+pub mod Trying
