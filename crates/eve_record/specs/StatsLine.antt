@@ -4,7 +4,7 @@ use Rattle.serde_json.specs.Data.{Data, string}
 use Rattle.serde_json.specs.Written.{compact_text}
 use Rattle.eve_record.specs.Fields.{Field, count, object_of}
 use Rattle.eve_record.specs.Time.{time_text}
-use Rattle.run_laws.specs.declared.stats.Stats.{Stats}
+use Rattle.run_stats.specs.declared.stats.Stats.{Stats}
 
 -- a field that counts
 abbrev pub counted : List ℕ → ℕ → Field

@@ -20,7 +20,7 @@ use crate::digits::ascii_text;
 use crate::fields::{close, count, key, open, text, writer};
 use crate::time::utc_text;
 use json::Writer;
-use run_laws::Stats;
+use run_stats::Stats;
 use std::alloc::Global;
 use suri_base::NoMemory;
 

@@ -3,7 +3,7 @@ use crate::test_texts::*;
 use crate::{flow_text, netflow_text, stats_text};
 use flow_object::FlowLine;
 use flow_sum::{Dir, Sums};
-use run_laws::Stats;
+use run_stats::Stats;
 use std::test::Fail;
 use suri_base::{App, End, IcmpFacts, Key, Reason, Side, StreamLine, Vlans};
 use tcp_session::{Class, State};

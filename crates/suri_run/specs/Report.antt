@@ -10,8 +10,8 @@ use Rattle.suri_base.specs.declared.reason.Reason.TheVariants.{Timeout, TcpReuse
 use Rattle.suri_base.specs.declared.seen.Seen.{Seen}
 use Rattle.pcap_read.specs.File.{CaptureFile, Reads}
 use Rattle.flow_object.specs.declared.outcome.FlowLine.{FlowLine}
-use Rattle.run_laws.specs.Counting.{ended_by}
-use Rattle.run_laws.specs.declared.stats.Stats.{Stats}
+use Rattle.run_stats.specs.Counting.{ended_by}
+use Rattle.run_stats.specs.declared.stats.Stats.{Stats}
 use Rattle.eve_record.specs.FlowLine.{flow_line}
 use Rattle.eve_record.specs.NetflowLine.{netflow_lines}
 use Rattle.eve_record.specs.StatsLine.{stats_line}

@@ -15,7 +15,7 @@ ghost use Rattle.std.specs.Prelude.{
 };
 ghost use Rattle.suri_base.specs.Frames.{AreNumbered};
 ghost use Rattle.suri_base.specs.Keys.{IsNameable};
-ghost use Rattle.run_laws.specs.Counting.{ended_by, same_reason};
+ghost use Rattle.run_stats.specs.Counting.{ended_by, same_reason};
 ghost use Rattle.suri_run.specs.Report.{IsPlainReport};
 ghost use Rattle.suri_run.specs.Run.{IsUnreported};
 ghost use Rattle.suri_run.specs.Taken.{stats_taken};
@@ -26,7 +26,7 @@ use capture_index::index;
 use flow_object::FlowLine;
 use pcap_read::{Frames, PcapFault, frames};
 use plain_flows::plain_records;
-use run_laws::Stats;
+use run_stats::Stats;
 use std::alloc::Global;
 use suri_base::{Capture, Frame, Reason};
 

@@ -11,7 +11,7 @@ use crate::cause::Cause;
 use crate::report::Report;
 use eve_record::{flow_text, netflow_text, stats_text};
 use flow_object::FlowLine;
-use run_laws::Stats;
+use run_stats::Stats;
 use std::alloc::Global;
 use suri_base::NoMemory;
 use suri_opts::Options;

@@ -8,7 +8,7 @@ use Rattle.suri_base.specs.declared.counter.Counter.TheVariants.{LinkSmall, Vlan
 use Rattle.suri_base.specs.declared.reason.Reason.{Reason}
 use Rattle.suri_base.specs.declared.reason.Reason.TheVariants.{Timeout, TcpReuse, Forced, Shutdown}
 use Rattle.flow_object.specs.declared.outcome.FlowLine.{FlowLine}
-use Rattle.run_laws.specs.declared.stats.Stats.{Stats}
+use Rattle.run_stats.specs.declared.stats.Stats.{Stats}
 
 -- the number of a decoder counter among the counts
 abbrev pub field_of : Counter → Stats → ℕ

@@ -1,6 +1,6 @@
 //! The counts of the stats line.
 ghost use Rattle.flow_object.specs.declared.outcome.FlowLine.{FlowLine};
-ghost use Rattle.run_laws.specs.Counting.{IsCounted, field_of};
+ghost use Rattle.run_stats.specs.Counting.{IsCounted, field_of};
 ghost use Rattle.std.specs.Prelude.{◌≡◌, List};
 ghost use Rattle.suri_base.specs.Capture.{Captured};
 ghost use Rattle.suri_base.specs.Counters.{counted_under};
