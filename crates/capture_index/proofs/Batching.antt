@@ -1,11 +1,13 @@
 -- The frames that a worker takes of a round, when one frame more is looked at, and their batches.
-use Rattle.std.proofs.Common.{◌≡◌, ℕ, zero, suc, ◌+◌, ◌-◌, ◌*◌, ◌/◌, ◌<◌, ◌≤◌, Bool, true, false, cond, List, [], ◌∷◌, ◌++◌, refl, ap, sym, ◌∙◌, map, filter, take, drop, length, get_or, append-nil, length-drop, arith}
+use Rattle.std.proofs.Common.{◌≡◌, ℕ, zero, suc, ◌+◌, ◌-◌, ◌*◌, ◌/◌, ◌%◌, ◌<◌, ◌≤◌, Bool, true, false, cond, List, [], ◌∷◌, ◌++◌, refl, ap, sym, ◌∙◌, map, filter, take, drop, length, get_or, append-nil, length-drop, arith}
 use Rattle.std.proofs.Math.Nat.{div-mul-le_self, mul-le-mul_right}
 use Rattle.std.proofs.lemmas.Grind.{take_at_read}
 use Rattle.std.proofs.lemmas.List.{get_or-drop}
 use Rattle.std.specs.Prelude.{◌==◌, slice_get, Some}
-use Rattle.suri_base.specs.Capture.{packets_in}
+use Rattle.suri_base.specs.Capture.{counter_in, packets_in}
 use Rattle.suri_base.specs.Dealing.{worker_of}
+use Rattle.suri_base.specs.Hash.{fnv1a, key_bytes}
+use Rattle.suri_base.specs.declared.counter.Counter.{Counter}
 use Rattle.suri_base.specs.declared.facts.Facts.{Facts}
 use Rattle.suri_base.specs.declared.layout.Layout.{Layout}
 use Rattle.suri_base.specs.declared.seen.Seen.{Seen}
@@ -42,6 +44,21 @@ pub taken_push : (l : Layout) (worker : ℕ) (a b : List Seen) → taken_among l
 taken_push l worker a b =
     ap (λ (p : List Facts). map (λ f. f.no) (filter (λ f. worker_of f.key l.workers == worker) p)) (packets_push a b)
     ∙ kept_push (λ f. worker_of f.key l.workers == worker) (packets_in a) (packets_in b)
+
+-- a frame that bears a flow is taken by the worker of its hash alone, and another by none
+pub taken_bearing : (l : Layout) (worker number hash : ℕ) (s : Seen) (f : Facts) → s ≡ Bears f → f.no ≡ number → hash ≡ fnv1a (key_bytes f.key)
+    → taken_among l worker (s ∷ []) ≡ cond (hash % l.workers == worker) (number ∷ []) []
+taken_bearing l worker number hash s f bears own is =
+    ap (λ (x : Seen). taken_among l worker (x ∷ [])) bears ∙ by (worker_of f.key l.workers == worker)
+    ∙ ap (λ (n : ℕ). cond (worker_of f.key l.workers == worker) (n ∷ []) []) own ∙ ap (λ (h : ℕ). cond (h % l.workers == worker) (number ∷ []) []) (sym is)
+  where
+    by : (t : Bool) → map (λ (g : Facts). g.no) (cond t (f ∷ []) []) ≡ cond t (f.no ∷ []) []
+    by true = refl
+    by false = refl
+
+pub taken_counted : (l : Layout) (worker : ℕ) (s : Seen) (c : Counter) → Some c ≡ counter_in s → taken_among l worker (s ∷ []) ≡ []
+taken_counted l worker (Bears f) c is = cc
+taken_counted l worker (Counted d) c is = refl
 
 -- one frame more is looked at
 taken_at : (l : Layout) (worker : ℕ) (seen : List Seen) (from i : ℕ) (d : Seen) → from ≤ i → i < length seen

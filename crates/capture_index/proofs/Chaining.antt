@@ -6,11 +6,10 @@ use Rattle.std.proofs.lemmas.List.{drop-drop, drop_all, drop_more, length-map, t
 use Rattle.std.proofs.lemmas.List.FromFn.{get_or-map-range_with_len, length-map-range_with_len}
 use Rattle.std.specs.Fork.{slice_chunk}
 use Rattle.std.specs.Int.{div_ceil}
-use Rattle.std.specs.HashMap.{HashMap, IsEmpty}
 use Rattle.suri_base.specs.Slot.{packed}
 use Rattle.suri_base.specs.declared.seen.Seen.{Seen}
 use Rattle.suri_base.specs.declared.slot.Slot.{Slot}
-use Rattle.capture_index.specs.declared.by_key.ByKey.{ByKey}
+use Rattle.capture_index.specs.declared.firsts.Firsts.{Firsts}
 use Rattle.capture_index.specs.Links.{AreAt, Tells, linked, linked_before, linked_one}
 use Rattle.capture_index.specs.Pieces.{piece_of, pieces_of}
 use Rattle.capture_index.proofs.Laws.{linked_count}
@@ -18,7 +17,7 @@ use Rattle.capture_index.proofs.Nexts.{read_between, write_between}
 use Rattle.capture_index.proofs.Piecing.{begins_within, chunk_and, holds_all}
 
 -- what is known of the loop from the last piece to the first, when it has come to this one
-pub record Chained {S : Type 0} (size : ℕ) (seen : List Seen) (i : ℕ) (lists : List (List Slot)) (m : HashMap ByKey ℕ S) : Type 0 where
+pub record Chained (size : ℕ) (seen : List Seen) (i : ℕ) (lists : List (List Slot)) (m : Firsts) : Type 0 where
   pub told : Tells m (drop (i * size) seen)
   pub done : lists ≡ take i (pieces_of size seen) ++ drop i (pieces_of size (linked seen))
 
@@ -81,12 +80,8 @@ begins_at size seen pieces place some is later low =
 pub reaches : (size i : ℕ) (seen : List Seen) → i * size < length seen → i * size + length (piece_of size seen i) ≤ length seen
 reaches size i seen low = simp (length-map, length-take, length-drop) (omega (arith, low))
 
--- a map without entries tells that there is no frame
-pub tells_none : {S : Type 0} (m : HashMap ByKey ℕ S) → IsEmpty m → Tells m []
-tells_none m empty q = rw empty refl
-
 -- behind the last piece
-pub chained_none : {S : Type 0} (size : ℕ) (seen : List Seen) (i : ℕ) (lists : List (List Slot)) (m : HashMap ByKey ℕ S) → 0 < size → i ≡ length lists → lists ≡ pieces_of size seen → Tells m []
+pub chained_none : (size : ℕ) (seen : List Seen) (i : ℕ) (lists : List (List Slot)) (m : Firsts) → 0 < size → i ≡ length lists → lists ≡ pieces_of size seen → Tells m []
     → Chained size seen i lists m
 chained_none size seen i lists m some all is tells =
     let count : i ≡ div_ceil (length seen) size = all ∙ ap (length {A = List Slot}) is ∙ many size seen in
@@ -100,7 +95,7 @@ chained_none size seen i lists m some all is tells =
     }
 
 -- the piece before those that are done is still as it was
-pub still : {S : Type 0} (size : ℕ) (seen : List Seen) (i j : ℕ) (lists : List (List Slot)) (m : HashMap ByKey ℕ S) (d : List Slot) → j ≡ i + 1 → i < div_ceil (length seen) size → Chained size seen j lists m
+pub still : (size : ℕ) (seen : List Seen) (i j : ℕ) (lists : List (List Slot)) (m : Firsts) (d : List Slot) → j ≡ i + 1 → i < div_ceil (length seen) size → Chained size seen j lists m
     → get_or lists i d ≡ piece_of size seen i
 still size seen i j lists m d j_is low so =
     let before = pieces_of size seen in
@@ -114,7 +109,7 @@ still size seen i j lists m d j_is low so =
     ap (λ (l : List (List Slot)). get_or l i d) apart ∙ read_between (take i before) (drop (i + 1) after) (piece_of size seen i) d i place
 
 -- one piece more
-pub chained_more : {S : Type 0} (size : ℕ) (seen : List Seen) (i j first : ℕ) (lists now : List (List Slot)) (m n : HashMap ByKey ℕ S) (d old new : List Slot) → j ≡ i + 1 → i < div_ceil (length seen) size
+pub chained_more : (size : ℕ) (seen : List Seen) (i j first : ℕ) (lists now : List (List Slot)) (m n : Firsts) (d old new : List Slot) → j ≡ i + 1 → i < div_ceil (length seen) size
     → first ≡ i * size + 1 → AreAt 1 seen → Chained size seen j lists m → old ≡ get_or lists i d
     → ((part behind : List Seen) → old ≡ map packed part → AreAt first part → Tells m behind → new ≡ map packed (linked_before behind part))
     → ((part behind : List Seen) → old ≡ map packed part → AreAt first part → Tells m behind → Tells n (part ++ behind))
@@ -144,5 +139,5 @@ chained_more size seen i j first lists now m n d old new j_is low first_is at so
     }
 
 -- after the first piece
-pub chained_all : {S : Type 0} (size : ℕ) (seen : List Seen) (i : ℕ) (lists : List (List Slot)) (m : HashMap ByKey ℕ S) → i ≡ 0 → Chained size seen i lists m → lists ≡ pieces_of size (linked seen)
+pub chained_all : (size : ℕ) (seen : List Seen) (i : ℕ) (lists : List (List Slot)) (m : Firsts) → i ≡ 0 → Chained size seen i lists m → lists ≡ pieces_of size (linked seen)
 chained_all size seen i lists m none so = subst (λ (k : ℕ). lists ≡ take k (pieces_of size seen) ++ drop k (pieces_of size (linked seen))) none so.done

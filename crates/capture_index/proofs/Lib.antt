@@ -3,6 +3,7 @@ pub mod Chaining
 pub mod Decoded
 pub mod Indexed
 pub mod Laws
+pub mod Nexting
 pub mod Nexts
 pub mod Parts
 pub mod Piecing

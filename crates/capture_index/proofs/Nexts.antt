@@ -2,7 +2,6 @@
 use Rattle.std.proofs.Common.{◌≡◌, ℕ, zero, suc, ◌+◌, ◌<◌, Bool, true, false, cond, List, [], ◌∷◌, ◌++◌, refl, ap, sym, ◌∙◌, subst, take, drop, length, map, get_or, append_assoc, append-nil, length-take, arith}
 use Rattle.std.proofs.Math.ListN.{set}
 use Rattle.std.proofs.lemmas.List.{drop_all, length-map, take_all}
-use Rattle.std.specs.HashMap.{HashMap}
 use Rattle.std.specs.Prelude.{Some, None}
 use Rattle.suri_base.specs.Capture.{key_in, linked_to, next_in, packets_in}
 use Rattle.suri_base.specs.Keys.{first_no, key_list, same_key}
@@ -13,7 +12,7 @@ use Rattle.suri_base.specs.declared.seen.Seen.{Seen}
 use Rattle.suri_base.specs.declared.seen.Seen.TheVariants.{Bears, Counted}
 use Rattle.suri_base.specs.declared.slot.Slot.{Slot}
 use Rattle.capture_index.specs.Links.{AreAt, IsAt, Tells, linked_before, linked_one}
-use Rattle.capture_index.specs.declared.by_key.ByKey.{ByKey}
+use Rattle.capture_index.specs.declared.firsts.Firsts.{Firsts}
 
 first_push : (b : Bool) (f : Facts) (l : List Facts) → first_no (cond b (f ∷ l) l) ≡ cond b f.no (first_no l)
 first_push true f l = refl
@@ -31,7 +30,7 @@ is_linked (Bears f) behind key next slot bears is made =
     made ∙ ap (λ (n : ℕ). packed (linked_to n (Bears f))) (is ∙ ap (λ (k : Key). next_in k behind) same)
 is_linked (Counted c) behind key next slot bears is made = made
 
-pub is_told : {S : Type 0} (seen : Seen) (behind : List Seen) (key : Key) (number : ℕ) (m : HashMap ByKey ℕ S) → Some key ≡ key_in seen → IsAt number seen
+pub is_told : (seen : Seen) (behind : List Seen) (key : Key) (number : ℕ) (m : Firsts) → Some key ≡ key_in seen → IsAt number seen
     → ((f : Facts) → f.key ≡ key → f.no ≡ number → Tells m (Bears f ∷ behind)) → Tells m (seen ∷ behind)
 is_told (Bears f) behind key number m bears at tells =
     let same : f.key ≡ key = cc in
@@ -43,17 +42,17 @@ pub not_linked : (seen : Seen) (behind : List Seen) (slot : Slot) → None ≡ k
 not_linked (Bears f) behind slot none is = cc
 not_linked (Counted c) behind slot none is = is
 
-pub not_told : {S : Type 0} (seen : Seen) (behind : List Seen) (m : HashMap ByKey ℕ S) → None ≡ key_in seen → Tells m behind → Tells m (seen ∷ behind)
+pub not_told : (seen : Seen) (behind : List Seen) (m : Firsts) → None ≡ key_in seen → Tells m behind → Tells m (seen ∷ behind)
 not_told (Bears f) behind m none tells = cc
 not_told (Counted c) behind m none tells = tells
 
 -- what is known of a loop from the last frame of some to the first, when it has come to this place
-pub record Linking {S : Type 0} (behind seen : List Seen) (i : ℕ) (slots : List Slot) (m : HashMap ByKey ℕ S) : Type 0 where
+pub record Linking (behind seen : List Seen) (i : ℕ) (slots : List Slot) (m : Firsts) : Type 0 where
   pub told : Tells m (drop i seen ++ behind)
   pub done : slots ≡ map packed (take i seen ++ linked_before behind (drop i seen))
 
 -- before the last frame
-pub linking_none : {S : Type 0} (behind seen : List Seen) (i : ℕ) (slots : List Slot) (m : HashMap ByKey ℕ S) → i ≡ length slots → slots ≡ map packed seen → Tells m behind → Linking behind seen i slots m
+pub linking_none : (behind seen : List Seen) (i : ℕ) (slots : List Slot) (m : Firsts) → i ≡ length slots → slots ≡ map packed seen → Tells m behind → Linking behind seen i slots m
 linking_none behind seen i slots m all same tells =
     let many : i ≡ length seen = all ∙ ap length same ∙ length-map seen packed in
     let none : drop i seen ≡ [] = drop_all i seen (omega (arith, many)) in
@@ -102,7 +101,7 @@ map_both [] b = refl
 map_both (s ∷ a) b = ap (λ (l : List Slot). packed s ∷ l) (map_both a b)
 
 -- one frame more
-pub linking_more : {S : Type 0} (behind seen : List Seen) (first i j number : ℕ) (slots now : List Slot) (m n : HashMap ByKey ℕ S) (d old new : Slot) → j ≡ i + 1 → i < length seen → number ≡ first + i
+pub linking_more : (behind seen : List Seen) (first i j number : ℕ) (slots now : List Slot) (m n : Firsts) (d old new : Slot) → j ≡ i + 1 → i < length seen → number ≡ first + i
     → AreAt first seen → Linking behind seen j slots m → old ≡ get_or slots i d
     → ((s : Seen) (after : List Seen) → old ≡ packed s → Tells m after → new ≡ packed (linked_one s after))
     → ((s : Seen) (after : List Seen) → old ≡ packed s → IsAt number s → Tells m after → Tells n (s ∷ after))

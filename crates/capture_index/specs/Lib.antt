@@ -5,3 +5,4 @@ pub mod Index
 pub mod Links
 pub mod Order
 pub mod Pieces
+pub mod Short

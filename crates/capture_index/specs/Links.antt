@@ -1,11 +1,12 @@
 -- Each packet with the next one of its key.
-use Rattle.std.specs.Prelude.{◌≡◌, ℕ, ◌+◌, Bool, List, [], ◌∷◌, ◌++◌, unwrap_or}
-use Rattle.std.specs.HashMap.{get, HashMap}
+use Rattle.std.specs.Prelude.{◌≡◌, ℕ, ◌+◌, if◌then◌else◌, List, [], ◌∷◌, ◌++◌, Option, unwrap_or}
+use Rattle.std.specs.HashMap.{get}
 use Rattle.suri_base.specs.Capture.{linked_to, next_in}
-use Rattle.suri_base.specs.Keys.{same_key}
+use Rattle.suri_base.specs.declared.key.Key.{Key}
 use Rattle.suri_base.specs.declared.seen.Seen.{Seen}
 use Rattle.suri_base.specs.declared.seen.Seen.TheVariants.{Bears, Counted}
-use Rattle.capture_index.specs.declared.by_key.ByKey.{ByKey}
+use Rattle.capture_index.specs.Short.{is_short, same_by_key, same_short, shortened}
+use Rattle.capture_index.specs.declared.firsts.Firsts.{Firsts}
 
 -- what became of a frame, which names the next frame of its key among those behind it
 abbrev pub linked_one : Seen → List Seen → Seen
@@ -32,9 +33,10 @@ abbrev pub AreAt : ℕ → List Seen → Type 0
 AreAt number [] = Unit {0}
 AreAt number (s ∷ seen) = IsAt number s × AreAt (number + 1) seen
 
-abbrev pub same_by_key : ByKey → ByKey → Bool
-same_by_key a b = same_key a.key b.key
+-- the number that the maps have at a key
+abbrev pub number_at : Firsts → Key → Option ℕ
+number_at m k = if is_short k then get same_short m.short (shortened k) else get same_by_key m.long (record { key = k })
 
--- the map tells of each key its first frame among these
-abbrev pub Tells : {S : Type 0} → HashMap ByKey ℕ S → List Seen → Type 0
-Tells m seen = (q : ByKey) → unwrap_or (get same_by_key m q) 0 ≡ next_in q.key seen
+-- the maps tell of each key its first frame among these
+abbrev pub Tells : Firsts → List Seen → Type 0
+Tells m seen = (k : Key) → unwrap_or (number_at m k) 0 ≡ next_in k seen

@@ -1,10 +1,11 @@
 //! Which frames a worker takes, round by round, in batches.
 ghost use Rattle.capture_index.specs.Batches.{batches_of, cut_into, rounds_of, taken_among, taken_in};
 ghost use Rattle.std.specs.Prelude.{◌≡◌, ◌-◌, ◌<◌, ◌≤◌, if◌then◌else◌, [], ◌∷◌, IfOk, Some, length, map, slice_get};
+ghost use Rattle.suri_base.specs.Capture.{IsCapture};
 ghost use Rattle.suri_base.specs.declared.seen.Seen.{Seen};
 
 use std::alloc::{AllocError, Global};
-use suri_base::{Capture, Layout, NoMemory, Seen, round_of};
+use suri_base::{Capture, Layout, NoMemory, round_of};
 
 /// How many rounds a capture has, where each round has `round` frames. It is 0 where there is no frame.
 pub fn rounds(capture: &Capture, round: u32) -> u32
@@ -19,14 +20,15 @@ pub fn rounds(capture: &Capture, round: u32) -> u32
 
 // Whether this worker takes the frame of this number: whether it bears a flow whose key is the worker's.
 fn is_taken(capture: &Capture, layout: &Layout, worker: u32, no: u32) -> bool
+    requires fits { IsCapture capture.now }
     requires workers { 1 ≤ layout.now.workers }
     requires number { (1 ≤ no) × (no ≤ length capture.now.frames) }
     ensures { (s : Seen) → slice_get capture.now.seen (no - 1) ≡ Some s →
         taken_among layout.now worker (s ∷ []) ≡ (if result then no ∷ [] else []) }
 {
-    match capture.get(no) {
-        Seen::Bears(_) => capture.hash(no) % layout.workers == worker,
-        Seen::Counted(_) => false,
+    match capture.counter(no) {
+        None => capture.hash(no) % layout.workers == worker,
+        Some(_) => false,
     }
 }
 

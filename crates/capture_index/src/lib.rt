@@ -6,6 +6,7 @@ mod by_key;
 mod capture;
 mod dealing;
 mod decode;
+mod firsts;
 mod links;
 mod pieces;
 #[cfg(test)]

@@ -1,49 +1,30 @@
 //! Which frame is the next one of each frame's key.
 ghost use Rattle.capture_index.specs.Links.{AreAt, IsAt, Tells, linked, linked_before, linked_one};
 ghost use Rattle.capture_index.specs.Pieces.{pieces_of};
-ghost use Rattle.std.specs.HashMap.{IsEmpty};
 ghost use Rattle.std.specs.Prelude.{◌≡◌, ◌+◌, ◌^◌, ◌<◌, ◌≤◌, [], ◌∷◌, ◌++◌, IfOk, List, OnOk, length, map};
-ghost use Rattle.suri_base.specs.Capture.{next_in};
 ghost use Rattle.suri_base.specs.Slot.{packed};
-ghost use Rattle.suri_base.specs.declared.facts.Facts.{Facts};
 ghost use Rattle.suri_base.specs.declared.seen.Seen.{Seen};
-ghost use Rattle.suri_base.specs.declared.seen.Seen.TheVariants.{Bears};
 
-use crate::by_key::ByKey;
+use crate::firsts::Firsts;
 use std::alloc::{AllocError, Global};
-use std::collections::HashMap;
-use suri_base::{Key, Slot};
+use suri_base::Slot;
 
-// The first frame of a key behind the frame of this number, which bears the key: 0 where there is none. From then on the
-// map tells of this frame too.
-fn next_of(firsts: &mut HashMap<ByKey, u32>, key: Key, no: u32) -> Result<u32, AllocError>
-    ensures value { (behind : List Seen) → Tells firsts.old behind → IfOk result (λ next. next ≡ next_in key behind) }
-    ensures told { (f : Facts) (behind : List Seen) → f.key ≡ key → f.no ≡ no → Tells firsts.old behind → OnOk result (Tells firsts.new (Bears f ∷ behind)) }
-{
-    let before = firsts.insert(ByKey { key }, no)?;
-    Ok(before.unwrap_or(0))
-}
-
-// Names in the slot of the frame of this number the next frame of its key, where the map tells of the frames behind it.
-fn link_one(firsts: &mut HashMap<ByKey, u32>, no: u32, slot: &mut Slot) -> Result<(), AllocError>
+// Names in the slot of the frame of this number the next frame of its key, where the maps tell of the frames behind it.
+fn link_one(firsts: &mut Firsts, no: u32, slot: &mut Slot) -> Result<(), AllocError>
     ensures value { (seen : Seen) (behind : List Seen) → slot.old ≡ packed seen → Tells firsts.old behind
         → OnOk result (slot.new ≡ packed (linked_one seen behind)) }
     ensures told { (seen : Seen) (behind : List Seen) → slot.old ≡ packed seen → IsAt no seen → Tells firsts.old behind
         → OnOk result (Tells firsts.new (seen ∷ behind)) }
 {
     if let Some(key) = slot.key() {
-        let next = next_of(firsts, key, no)?;
+        let next = firsts.put(key, no)?;
         slot.link(next);
     }
     Ok(())
 }
 
 // The same for the slots of some frames in file order, of which the first has this number.
-fn link_part(
-    firsts: &mut HashMap<ByKey, u32>,
-    first: u32,
-    slots: &mut [Slot],
-) -> Result<(), AllocError>
+fn link_part(firsts: &mut Firsts, first: u32, slots: &mut [Slot]) -> Result<(), AllocError>
     requires few { first + length slots.old < 2 ^ 32 }
     ensures value { (seen behind : List Seen) → slots.old ≡ map packed seen → AreAt first seen → Tells firsts.old behind
         → OnOk result (slots.new ≡ map packed (linked_before behind seen)) }
@@ -60,7 +41,7 @@ fn link_part(
 
 /// Names in the slot of each frame the next frame that bears the same key, or 0, where each piece but the last has `size` slots.
 ///
-/// One pass from the last frame to the first, with a map from each key to its first frame so far. The pieces are those of frames whose numbers
+/// One pass from the last frame to the first, with maps from each key to its first frame so far. The pieces are those of frames whose numbers
 /// are those of their places, from 1.
 pub fn link(
     alloc: Global,
@@ -72,7 +53,7 @@ pub fn link(
     ensures { (seen : List Seen) → map (λ p. p.items) pieces.items ≡ pieces_of size seen → AreAt 1 seen
         → IfOk result (λ v. map (λ p. p.items) v.items ≡ pieces_of size (linked seen)) }
 {
-    let mut firsts = HashMap::new(alloc);
+    let mut firsts = Firsts::new(alloc);
     let mut piece = pieces.len();
     while piece > 0 {
         piece -= 1;

@@ -203,3 +203,37 @@ fn hands_on_how_keys_are_dealt(rt: HostRuntime) -> Result<(), Fail> {
     assert_eq!(rt; round_of(5, 4), 1);
     Ok(())
 }
+
+// A record with a datagram of IPv6 from X::10.0.0.1 port 1000 to X::10.0.0.9 port 2000, where the addresses begin with X.
+fn push_long_record(bytes: &mut Vec<u8>, first: [u8; 2]) -> Result<(), AllocError> {
+    bytes.extend_from_slice(&[
+        7, 0, 0, 0, 0, 0, 0, 0, 62, 0, 0, 0, 62, 0, 0, 0, 2, 0, 0, 0, 0, 2, 2, 0, 0, 0, 0, 1, 0x86,
+        0xdd, 0x60, 0, 0, 0, 0, 8, 17, 64,
+    ])?;
+    for last in [1, 9] {
+        bytes.extend_from_slice(&first)?;
+        bytes.extend_from_slice(&[0, 0, 0, 0, 0, 0, 0, 0, 0, 0, 10, 0, 0, last])?;
+    }
+    bytes.extend_from_slice(&[3, 0xe8, 7, 0xd0, 0, 8, 0, 0])?;
+    Ok(())
+}
+
+#[test]
+fn links_long_addresses_beside_short_ones(rt: HostRuntime) -> Result<(), Fail> {
+    let alloc = rt.alloc();
+    let mut bytes = Vec::from_slice(alloc, &HEADER)?;
+    for _ in 0..2 {
+        push_record(&mut bytes, 1, 7)?;
+        push_long_record(&mut bytes, [0x20, 1])?;
+        // The numbers of its addresses are those of the IPv4 packet.
+        push_long_record(&mut bytes, [0, 0])?;
+    }
+    assert!(rt; bytes.len() < 1000);
+    let file = frames(alloc, &bytes)?;
+    let capture = index(alloc, bytes, file)?;
+    assert_eq!(rt;
+        nexts(alloc, &capture)?.as_slice(),
+        [4, 5, 6, 0, 0, 0].as_slice()
+    );
+    Ok(())
+}

@@ -5,6 +5,7 @@ use Rattle.std.proofs.lemmas.List.{take-append-drop, take_all, take_more}
 use Rattle.std.proofs.lemmas.List.Sums.{sum_by-append, sum_by-cons, sum_by_push}
 use Rattle.std.proofs.lemmas.Option.{slice_get-get_or}
 use Rattle.suri_base.specs.Capture.{packets_in}
+use Rattle.suri_base.specs.declared.counter.Counter.TheVariants.{LinkSmall}
 use Rattle.suri_base.specs.declared.facts.Facts.{Facts}
 use Rattle.suri_base.specs.declared.seen.Seen.{Seen}
 use Rattle.suri_base.specs.declared.seen.Seen.TheVariants.{Bears, Counted}
@@ -148,14 +149,13 @@ one_carried (Bears f) = sum_by-cons carries f [] ∙ omega arith
 one_carried (Counted c) = refl
 
 -- one frame more: so many packets may need a node
-pub next_carried : (seen : List Seen) (i : ℕ) (s : Seen) (most more : ℕ) → i < length seen → slice_get seen (i + 1 - 1) ≡ Some s
-    → most ≡ sum_by carries (packets_in (take i seen)) → more ≡ carried_by s → most + more ≡ sum_by carries (packets_in (take (i + 1) seen))
-next_carried seen i s most more lt there so_far one =
-    let here : i + 1 - 1 ≡ i = omega arith in
-    let found : slice_get seen i ≡ Some s = subst (λ n. slice_get seen n ≡ Some s) here there in
-    let same : Some (get_or seen i s) ≡ Some s = sym (slice_get-get_or seen i s lt) ∙ found in
-    let is : s ≡ get_or seen i s = cc in
-    let front : take (i + 1) seen ≡ take i seen ++ s ∷ [] = take_more seen i s lt ∙ ap (λ (t : Seen). take i seen ++ t ∷ []) (sym is) in
+pub next_carried : (seen : List Seen) (i most more : ℕ) → i < length seen → most ≡ sum_by carries (packets_in (take i seen))
+    → ((s : Seen) → slice_get seen (i + 1 - 1) ≡ Some s → more ≡ carried_by s) → most + more ≡ sum_by carries (packets_in (take (i + 1) seen))
+next_carried seen i most more lt so_far each =
+    let s = get_or seen i (Counted LinkSmall) in
+    let here : i ≡ i + 1 - 1 = omega arith in
+    let one = each s (subst (λ n. slice_get seen n ≡ Some s) here (slice_get-get_or seen i (Counted LinkSmall) lt)) in
+    let front : take (i + 1) seen ≡ take i seen ++ s ∷ [] = take_more seen i (Counted LinkSmall) lt in
     let many : sum_by carries (packets_in (take (i + 1) seen)) ≡ sum_by carries (packets_in (take i seen)) + carried_by s =
     ap (λ (l : List Seen). sum_by carries (packets_in l)) front ∙ ap (sum_by carries) (packets-append (take i seen) (s ∷ []))
     ∙ sum_by-append carries (packets_in (take i seen)) (packets_in (s ∷ [])) ∙ ap (λ n. sum_by carries (packets_in (take i seen)) + n) (one_carried s) in

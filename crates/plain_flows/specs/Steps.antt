@@ -1,7 +1,7 @@
 -- The words of single steps through the packets: what is kept of the runs so far, and what one packet more makes of it.
-use Rattle.std.specs.Prelude.{◌≡◌, ℕ, ◌+◌, ◌^◌, ◌<◌, ◌≤◌, ◌&&◌, nat_lt, Bool, true, false, if◌then◌else◌, List, [], ◌∷◌, ◌++◌, length, drop, sum_by, Option, Some, None, is_none, unwrap_or}
-use Rattle.std.specs.Option.{is_some}
+use Rattle.std.specs.Prelude.{◌≡◌, ℕ, ◌+◌, ◌^◌, ◌<◌, ◌≤◌, ◌&&◌, Bool, true, false, if◌then◌else◌, List, [], ◌∷◌, ◌++◌, length, drop, sum_by, Option, Some, None, is_none, unwrap_or}
 use Rattle.std.specs.List.{list_any, slice_index_or}
+use Rattle.suri_base.specs.Capture.{has_segment}
 use Rattle.suri_base.specs.Keys.{same_key}
 use Rattle.suri_base.specs.declared.facts.Facts.{Facts}
 use Rattle.suri_base.specs.declared.key.Key.{Key}
@@ -27,7 +27,7 @@ pub record Kept : Type 0 where
 
 -- 1 for a TCP packet with payload, which may need a node; else 0
 abbrev pub carries : Facts → ℕ
-carries f = if is_some f.tcp && nat_lt 0 f.pay_len then 1 else 0
+carries f = if has_segment f then 1 else 0
 
 -- the same of a frame
 abbrev pub carried_by : Seen → ℕ

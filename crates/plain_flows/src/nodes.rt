@@ -1,7 +1,8 @@
 //! The segment nodes of a run: a pool that never runs out of them.
 ghost use Rattle.segment_pool.specs.Counting.{out_of};
 ghost use Rattle.segment_pool.specs.Pool.{CountsFor, limit_of, spare_of};
-ghost use Rattle.std.specs.Prelude.{◌≡◌, ◌+◌, ◌-◌, ◌^◌, ◌<◌, ◌≤◌, IfOk, List, if◌then◌else◌, length, sum_by};
+ghost use Rattle.std.specs.Prelude.{◌≡◌, ◌+◌, ◌-◌, ◌^◌, ◌<◌, ◌≤◌, IfOk, List, Some, length, slice_get, sum_by};
+ghost use Rattle.suri_base.specs.declared.seen.Seen.{Seen};
 ghost use Rattle.suri_base.specs.Capture.{packets_in};
 ghost use Rattle.suri_base.specs.Chain.{IsAlone};
 ghost use Rattle.suri_base.specs.declared.entry.Entry.{Entry};
@@ -10,27 +11,18 @@ ghost use Rattle.plain_flows.specs.Steps.{IsInUse, carries, carried_by};
 
 use segment_pool::{SegCall, SegReply, SegmentPool};
 use std::alloc::Global;
-use suri_base::{Capture, Facts, Machine, NoMemory, Seen, Segment, Segments};
+use suri_base::{Capture, Machine, NoMemory, Segment, Segments};
 
 // The one role that makes calls on the pool.
 const ROLE: u32 = 0;
 
-// Whether a packet may need a node: TCP with payload.
-fn may_need_node(facts: &Facts) -> bool
-    ensures { (if result then 1 else 0) ≡ carries facts.now }
-{
-    facts.tcp.is_some() && facts.pay_len > 0
-}
-
-// How many nodes a frame may need, at most one.
-fn needed_by(seen: &Seen) -> u32
-    ensures value { result ≡ carried_by seen.now }
+// How many nodes the frame of this number may need, at most one.
+fn needed_by(capture: &Capture, no: u32) -> u32
+    requires { (1 ≤ no) × (no ≤ length capture.now.frames) }
+    ensures value { (seen : Seen) → slice_get capture.now.seen (no - 1) ≡ Some seen → result ≡ carried_by seen }
     ensures most { result ≤ 1 }
 {
-    match seen {
-        Seen::Bears(facts) => u32::from(may_need_node(facts)),
-        Seen::Counted(_) => 0,
-    }
+    u32::from(capture.bears_segment(no))
 }
 
 // How many frames of a capture may need a node.
@@ -40,8 +32,7 @@ fn most_nodes(capture: &Capture) -> u32
     let mut most = 0;
     let count = capture.count();
     for index in 0..count {
-        let seen = capture.get(index + 1);
-        most += needed_by(&seen);
+        most += needed_by(capture, index + 1);
     }
     most
 }

@@ -2,7 +2,7 @@
 use Rattle.std.proofs.Common.{◌≡◌, ℕ, zero, suc, ◌^◌, ◌<◌, ◌≤◌, Bool, true, false, if◌then◌else◌, IsTrue, List, [], ◌∷◌, length, Option, Some, None, IsSome, get_or, map, refl, ap, sym, ◌∙◌, subst, arith}
 use Rattle.std.specs.Prelude.{slice_get, unwrap_or}
 use Rattle.std.proofs.lemmas.Nat.{div-add-mod'}
-use Rattle.suri_base.specs.Capture.{AreFactsOf, AreSeenOf, IsSeenOf, key_in, linked_to}
+use Rattle.suri_base.specs.Capture.{AreFactsOf, AreSeenOf, IsSeenOf, counter_in, key_in, linked_to}
 use Rattle.suri_base.specs.Hash.{fnv1a, key_bytes}
 use Rattle.suri_base.specs.Protocols.{is_icmp, is_tcp}
 use Rattle.suri_base.specs.Slot.{address_of, all_unpacked, AreHashed, halved, IsHashed, packed, slot_facts, slot_key, unpacked, unpacked_as}
@@ -177,17 +177,29 @@ unpacked_at (g ∷ frames) (now ∷ clocks) [] k f clock s low is = absurd (omeg
 unpacked_at (g ∷ frames) (now ∷ clocks) (t ∷ slots) zero f clock s low is = let own : t ≡ s = cc in ap (λ (x : Slot). Some (unpacked g now x)) own
 unpacked_at (g ∷ frames) (now ∷ clocks) (t ∷ slots) (suc k) f clock s low is = unpacked_at frames clocks slots k f clock s (omega (arith, low)) is
 
--- the slot at the place of a frame with facts tells these
-pub slot_at : (frames : List Frame) (clocks : List ℕ) (slots : List Slot) (k : ℕ) (s : Slot) (f : Facts) → slice_get (all_unpacked frames clocks slots) k ≡ Some (Bears f) → slice_get slots k ≡ Some s
-    → (frame : Frame) × (clock : ℕ) × (unpacked frame clock s ≡ Bears f)
-slot_at [] clocks slots k s f has is = cc
-slot_at (g ∷ frames) [] slots k s f has is = cc
-slot_at (g ∷ frames) (now ∷ clocks) [] k s f has is = cc
-slot_at (g ∷ frames) (now ∷ clocks) (t ∷ slots) zero s f has is =
+-- the slot at the place of a frame tells what became of it
+pub slot_at : (frames : List Frame) (clocks : List ℕ) (slots : List Slot) (k : ℕ) (s : Slot) (seen : Seen) → slice_get (all_unpacked frames clocks slots) k ≡ Some seen → slice_get slots k ≡ Some s
+    → (frame : Frame) × (clock : ℕ) × (unpacked frame clock s ≡ seen)
+slot_at [] clocks slots k s seen has is = cc
+slot_at (g ∷ frames) [] slots k s seen has is = cc
+slot_at (g ∷ frames) (now ∷ clocks) [] k s seen has is = cc
+slot_at (g ∷ frames) (now ∷ clocks) (t ∷ slots) zero s seen has is =
     let own : t ≡ s = cc in
-    let tells : unpacked g now t ≡ Bears f = cc in
+    let tells : unpacked g now t ≡ seen = cc in
     (g, now, ap (λ (x : Slot). unpacked g now x) (sym own) ∙ tells)
-slot_at (g ∷ frames) (now ∷ clocks) (t ∷ slots) (suc k) s f has is = slot_at frames clocks slots k s f has is
+slot_at (g ∷ frames) (now ∷ clocks) (t ∷ slots) (suc k) s seen has is = slot_at frames clocks slots k s seen has is
+
+-- the counter tells which frames bear a flow
+counter_as : (o : Option Counter) (frame : Frame) (clock : ℕ) (s : Slot) → o ≡ counter_in (unpacked_as o frame clock s)
+counter_as (Some c) frame clock s = refl
+counter_as None frame clock s = refl
+
+pub counter_is : (frame : Frame) (clock : ℕ) (s : Slot) → s.counter ≡ counter_in (unpacked frame clock s)
+counter_is frame clock s = counter_as s.counter frame clock s
+
+pub bears_of : (seen : Seen) → counter_in seen ≡ None → (f : Facts) × (seen ≡ Bears f)
+bears_of (Bears f) none = (f, refl)
+bears_of (Counted c) none = cc
 
 pub hashed_at : (slots : List Slot) (k : ℕ) (s : Slot) → AreHashed slots → slice_get slots k ≡ Some s → IsHashed s
 hashed_at [] k s are is = cc

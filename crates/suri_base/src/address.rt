@@ -14,6 +14,7 @@ pub struct Address {
 
 impl Address {
     /// The halves of an address.
+    #[inline(always)]
     pub fn of(number: u128) -> Address
         ensures { result ≡ halved number }
     {
@@ -24,6 +25,7 @@ impl Address {
     }
 
     /// The whole address.
+    #[inline(always)]
     pub fn number(&self) -> u128
         ensures { result ≡ address_of self.now }
     {

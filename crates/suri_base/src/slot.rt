@@ -1,6 +1,6 @@
 //! What is kept of what became of a frame.
 ghost use Rattle.std.specs.Prelude.{◌≡◌, ℕ, Option};
-ghost use Rattle.suri_base.specs.Capture.{IsSeenOf, linked_to, key_in};
+ghost use Rattle.suri_base.specs.Capture.{IsSeenOf, bears_segment, linked_to, key_in};
 ghost use Rattle.suri_base.specs.Slot.{packed, slot_facts, slot_key, unpacked};
 ghost use Rattle.suri_base.specs.declared.frame.Frame.{Frame};
 ghost use Rattle.suri_base.specs.Protocols as protocols;
@@ -26,7 +26,7 @@ pub struct Slot {
     // All 0 where the protocol isn't TCP.
     tcp: TcpFacts,
     pub(crate) hash: u32,
-    len: u32,
+    pub(crate) len: u32,
     pub(crate) pay_at: u32,
     pub(crate) pay_len: u32,
     next: u32,
@@ -41,7 +41,7 @@ pub struct Slot {
     side: Side,
     ttl: u8,
     // Where the frame bears no flow; the rest is 0 then.
-    counter: Option<Counter>,
+    pub(crate) counter: Option<Counter>,
 }
 
 // What is kept of a TCP header that isn't there.
@@ -55,6 +55,7 @@ const NO_TCP: TcpFacts = TcpFacts {
 const NO_ICMP: IcmpFacts = IcmpFacts { kind: 0, code: 0 };
 
 // What is kept of a frame that bears no flow.
+#[inline(always)]
 #[tactic(auto, unfolding(crate::specs::Slot::packed))]
 fn blank(counter: Counter) -> Slot
     ensures { result ≡ packed (Counted counter) }
@@ -88,6 +89,7 @@ fn blank(counter: Counter) -> Slot
 }
 
 // What is kept of a frame that bears a flow.
+#[inline(always)]
 #[tactic(auto, unfolding(crate::specs::Slot::packed))]
 fn filled(facts: &Facts) -> Slot
     ensures { result ≡ packed (Bears facts.now) }
@@ -124,6 +126,7 @@ fn is_icmp(version: u8, proto: u8) -> bool
 
 impl Slot {
     /// What is kept of what became of a frame.
+    #[inline(always)]
     pub fn of(seen: &Seen) -> Slot
         ensures value { result ≡ packed seen.now }
         // Whatever frame and clock it is of, it is read back from it.
@@ -135,7 +138,15 @@ impl Slot {
         }
     }
 
+    /// Whether the frame bears a TCP segment with payload.
+    pub fn bears_segment(&self) -> bool
+        ensures { (frame : Frame) (clock : ℕ) → result ≡ bears_segment (unpacked frame clock self.now) }
+    {
+        self.counter.is_none() && self.proto == TCP && self.pay_len > 0
+    }
+
     // The key it keeps; of no meaning where the frame bears no flow.
+    #[inline(always)]
     fn kept_key(&self) -> Key
         ensures { result ≡ slot_key self.now }
     {
@@ -156,6 +167,7 @@ impl Slot {
     }
 
     // The facts of the frame it is of; of no meaning where the frame bears no flow.
+    #[inline(always)]
     fn kept_facts(&self, frame: &Frame, clock: u64) -> Facts
         ensures { result ≡ slot_facts frame.now clock self.now }
     {
@@ -176,6 +188,7 @@ impl Slot {
     }
 
     /// What became of the frame, whose clock is in nanoseconds since 1970-01-01T00:00:00 UTC.
+    #[inline(always)]
     pub fn seen(&self, frame: &Frame, clock: u64) -> Seen
         ensures { result ≡ unpacked frame.now clock self.now }
     {
@@ -186,6 +199,7 @@ impl Slot {
     }
 
     /// The key of the frame; none where it bears no flow.
+    #[inline(always)]
     pub fn key(&self) -> Option<Key>
         ensures { (seen : Seen) → self.now ≡ packed seen → result ≡ key_in seen }
     {
@@ -196,6 +210,7 @@ impl Slot {
     }
 
     /// Names the next frame with the same key, or 0. Where the frame bears no flow, nothing is changed.
+    #[inline(always)]
     pub fn link(&mut self, next: u32)
         ensures { (seen : Seen) → self.old ≡ packed seen → self.new ≡ packed (linked_to next seen) }
     {

@@ -4,7 +4,7 @@ use Rattle.std.proofs.lemmas.List.{get_or-map, length-map, map-set}
 use Rattle.std.specs.Vec.{with_items}
 use Rattle.suri_base.specs.declared.slot.Slot.{Slot}
 use Rattle.capture_index.specs.Pieces.{piece_of}
-use Rattle.capture_index.proofs.Chaining.{begins_at, chained_all, chained_more, chained_none, pieces_count, reaches, still, tells_none}
+use Rattle.capture_index.proofs.Chaining.{begins_at, chained_all, chained_more, chained_none, pieces_count, reaches, still}
 use Rattle.capture_index.proofs.Parts.{whole_back}
 use Rattle.capture_index.proofs.links.link.Goals as goal
 
@@ -35,7 +35,7 @@ loop-piece-init c = record {
   count = refl;
   chained = λ seen kept at.
       let all : c.len-piece.result ≡ length c.args.pieces.items = omega (arith, c.len-piece.ensures) in
-      chained_none c.args.size seen c.len-piece.result _ c.new-firsts.result c.requires.size (all ∙ sym (length-map c.args.pieces.items (λ p. p.items))) kept (tells_none c.new-firsts.result c.new-firsts.ensures.empty);
+      chained_none c.args.size seen c.len-piece.result _ c.new-firsts.result c.requires.size (all ∙ sym (length-map c.args.pieces.items (λ p. p.items))) kept c.new-firsts.ensures;
 }
 
 pub loop-piece-preserved : goal.loop-piece-preserved

@@ -3,6 +3,7 @@ use Rattle.std.specs.Prelude.{slice_get}
 use Rattle.suri_base.specs.Capture.{Captured, IsCapture}
 use Rattle.suri_base.specs.Hash.{fnv1a, key_bytes}
 use Rattle.suri_base.specs.declared.facts.Facts.{Facts}
+use Rattle.suri_base.specs.declared.seen.Seen.TheVariants.{Bears}
 use Rattle.suri_base.proofs.Captures.{as_many_seen, facts_within}
 use Rattle.suri_base.proofs.Packings.{borne, enough_slots, hashed_at, slot_at}
 use Rattle.suri_base.proofs.capture.Capture.hash.Goals as goal
@@ -21,6 +22,6 @@ pub returns : goal.returns
 returns c f has =
     let place = c.args.no - 1 in
     let slot = c.get.result.now in
-    let at = slot_at c.self.inside.frames.items c.self.inside.clocks.items c.self.inside.slots place slot f (ap (λ (v : Captured). slice_get v.seen place) c.self.view_is ∙ has.1) c.get.ensures in
+    let at = slot_at c.self.inside.frames.items c.self.inside.clocks.items c.self.inside.slots place slot (Bears f) (ap (λ (v : Captured). slice_get v.seen place) c.self.view_is ∙ has.1) c.get.ensures in
     let bears = borne at.0 at.1 slot f at.2 in
     hashed_at c.self.inside.slots place slot c.self.invariant.1 c.get.ensures bears.0 ∙ ap (λ (g : Facts). fnv1a (key_bytes g.key)) bears.1
