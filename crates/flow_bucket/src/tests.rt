@@ -183,6 +183,24 @@ fn worker(rt: &impl Abort, bucket: &FlowBucket, no: u32) -> u32 {
     worker_of(&facts.key, bucket.layout.workers)
 }
 
+// The worker of a frame that waits for leave to begin a run with it.
+fn waiting_worker(rt: &impl Abort, bucket: &FlowBucket, past: &[Entry<BucketNote>], no: u32) -> u32
+    ensures { own.awaits result no past.now ≡ true }
+{
+    let role = worker(rt, bucket, no);
+    assert!(rt; awaits(role, no, past));
+    role
+}
+
+// The worker of a frame that has to settle its offer.
+fn owing_worker(rt: &impl Abort, bucket: &FlowBucket, past: &[Entry<BucketNote>], no: u32) -> u32
+    ensures { own.owes result past.now ≡ Some no }
+{
+    let role = worker(rt, bucket, no);
+    assert!(rt; owes(role, past) == Some(no));
+    role
+}
+
 fn look(
     rt: &impl Abort,
     bucket: &mut FlowBucket,
@@ -220,8 +238,7 @@ fn make(
     requires { BucketStands bucket.old past.old.items }
     ensures { IfOk result (λ r. BucketStands bucket.new past.new.items) }
 {
-    let role = worker(rt, bucket, no);
-    assert!(rt; awaits(role, no, past.as_slice()));
+    let role = waiting_worker(rt, bucket, past.as_slice(), no);
     let obj = FlowObj::new(alloc, bucket.layout.depth)?;
     ask(bucket, past, role, BucketCall::Make { no, obj })
 }
@@ -235,8 +252,7 @@ fn refuse(
     requires { BucketStands bucket.old past.old.items }
     ensures { IfOk result (λ r. BucketStands bucket.new past.new.items) }
 {
-    let role = worker(rt, bucket, no);
-    assert!(rt; awaits(role, no, past.as_slice()));
+    let role = waiting_worker(rt, bucket, past.as_slice(), no);
     ask(bucket, past, role, BucketCall::Refuse { no })
 }
 
@@ -251,8 +267,7 @@ fn segment(
     requires alone { IfSome node (λ n. IsAlone n.value) }
     ensures { IfOk result (λ r. BucketStands bucket.new past.new.items) }
 {
-    let role = worker(rt, bucket, no);
-    assert!(rt; owes(role, past.as_slice()) == Some(no));
+    let role = owing_worker(rt, bucket, past.as_slice(), no);
     ask(bucket, past, role, BucketCall::Segment { no, node })
 }
 
@@ -480,20 +495,30 @@ fn drains(
     Ok(())
 }
 
-// A sweep lets these runs go.
+// That run left, or none.
+fn is_left(rt: &impl Abort, left: &[Ended], wanted: Option<u32>, reason: Reason, emergency: bool) {
+    match wanted {
+        None => are_left(rt, left, &[]),
+        Some(run) => are_left(rt, left, &[(run, reason, emergency)]),
+    }
+}
+
+// A sweep lets that run go, or none.
 fn sweeps(
     rt: &impl Abort,
     bucket: &mut FlowBucket,
     past: &mut Vec<Entry<BucketNote>>,
     round: u32,
     emergency: bool,
-    wanted: &[(u32, Reason, bool)],
+    wanted: Option<u32>,
 ) -> Result<(), NoMemory>
     requires { BucketStands bucket.old past.old.items }
     ensures { IfOk result (λ r. BucketStands bucket.new past.new.items) }
 {
     match sweep(rt, bucket, past, round, emergency)? {
-        BucketReply::Swept(left) => are_left(rt, left.as_slice(), wanted),
+        BucketReply::Swept(left) => {
+            is_left(rt, left.as_slice(), wanted, Reason::Timeout, emergency)
+        }
         _ => panic!(rt; "a sweep answers what only other calls do"),
     }
     Ok(())
@@ -888,6 +913,24 @@ fn detached_runs_are_counted(rt: HostRuntime) -> Result<(), Fail> {
     Ok(())
 }
 
+// Both datagrams of the first round are done with, and swept as they expire.
+fn sweep_two(
+    rt: &impl Abort,
+    alloc: Global,
+    bucket: &mut FlowBucket,
+    past: &mut Vec<Entry<BucketNote>>,
+) -> Result<(), NoMemory>
+    requires { BucketStands bucket.old past.old.items }
+    ensures { IfOk result (λ r. BucketStands bucket.new past.new.items) }
+{
+    take_each(rt, alloc, bucket, past, 1, 3)?;
+    close_each(rt, bucket, past, 1, 3)?;
+    sweeps(rt, bucket, past, 2, false, None)?;
+    sweeps(rt, bucket, past, 5, false, Some(2))?;
+    sweeps(rt, bucket, past, 3, false, Some(1))?;
+    Ok(())
+}
+
 // A sweep at just the deadline keeps a run, and takes it a nanosecond later; one whose next packet comes in a round before
 // is spared.
 #[test]
@@ -895,35 +938,10 @@ fn a_sweep_takes_what_has_expired(rt: HostRuntime) -> Result<(), Fail> {
     let capture = datagrams(rt.alloc())?;
     let mut bucket = FlowBucket::new(rt.alloc(), &capture, LAYOUT, 0);
     let mut past = Vec::new(rt.alloc());
-    take_each(&rt, rt.alloc(), &mut bucket, &mut past, 1, 3)?;
-    close_each(&rt, &mut bucket, &mut past, 1, 3)?;
-    sweeps(&rt, &mut bucket, &mut past, 2, false, &[])?;
-    sweeps(
-        &rt,
-        &mut bucket,
-        &mut past,
-        5,
-        false,
-        &[(2, Reason::Timeout, false)],
-    )?;
-    sweeps(
-        &rt,
-        &mut bucket,
-        &mut past,
-        3,
-        false,
-        &[(1, Reason::Timeout, false)],
-    )?;
+    sweep_two(&rt, rt.alloc(), &mut bucket, &mut past)?;
     let _ = take(&rt, rt.alloc(), &mut bucket, &mut past, 3)?;
     let _ = close(&rt, &mut bucket, &mut past, 3)?;
-    sweeps(
-        &rt,
-        &mut bucket,
-        &mut past,
-        5,
-        true,
-        &[(3, Reason::Timeout, true)],
-    )?;
+    sweeps(&rt, &mut bucket, &mut past, 5, true, Some(3))?;
     Ok(())
 }
 
@@ -964,7 +982,7 @@ fn a_large_bucket(rt: HostRuntime) -> Result<(), Fail> {
     take_each(&rt, rt.alloc(), &mut bucket, &mut past, 1, 301)?;
     let reply = evict(&rt, &mut bucket, &mut past, 300)?;
     assert!(rt; matches!(reply, BucketReply::AllInUse(300)));
-    sweeps(&rt, &mut bucket, &mut past, 299, false, &[])?;
+    sweeps(&rt, &mut bucket, &mut past, 299, false, None)?;
     close_each(&rt, &mut bucket, &mut past, 1, 301)?;
     drains(
         &rt,
