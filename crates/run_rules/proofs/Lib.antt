@@ -1,0 +1,17 @@
+pub mod Carrying
+pub mod Changes
+pub mod Ended
+pub mod EndedFirst
+pub mod Finding
+pub mod Forcing
+pub mod HalfWay
+pub mod InEmergency
+pub mod InUse
+pub mod NoNode
+pub mod NoRoom
+pub mod Recorded
+pub mod Same
+pub mod SoFar
+pub mod Tested
+pub mod TestedSoFar
+pub mod ThreeRounds

@@ -1,0 +1,14 @@
+pub mod Setup
+pub mod Histories
+pub mod Acts
+pub mod Serving
+pub mod Worker
+pub mod Manager
+pub mod Ending
+pub mod Lawful
+pub mod Growing
+pub mod SoFar
+pub mod Steps
+pub mod Quiet
+pub mod Runs
+pub mod Rounds
