@@ -1,0 +1,4 @@
+pub mod Roles
+pub mod Calls
+pub mod Items
+pub mod Finishing
