@@ -1,0 +1,14 @@
+pub mod Seen
+pub mod Words
+pub mod Moving
+pub mod Short
+pub mod Refusing
+pub mod Telling
+pub mod Allowed
+pub mod Steps
+pub mod Turning
+pub mod Finding
+pub mod Closing
+pub mod Batching
+pub mod Rounding
+pub mod Working
