@@ -1,0 +1,3 @@
+pub mod Draining
+pub mod Queues
+pub mod Serving
