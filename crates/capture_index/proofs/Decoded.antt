@@ -1,11 +1,12 @@
 -- The facts of a frame are its own, and its key is in order and can be named.
-use Rattle.std.proofs.Common.{◌≡◌, ℕ, ◌+◌, ◌^◌, ◌<◌, ◌≤◌, ◌⊎◌, ◌↔◌, refl, ap, sym, subst, false, arith}
+use Rattle.std.proofs.Common.{◌≡◌, ℕ, ◌+◌, ◌^◌, ◌<◌, ◌≤◌, ◌⊎◌, ◌↔◌, List, refl, ap, sym, ◌∙◌, subst, false, arith}
 use Rattle.std.specs.Prelude.{IsSome, IsTrue, Result, Ok, Err}
 use Rattle.flow_key.specs.Keyed.{keyed_of}
 use Rattle.flow_key.specs.SameFlow.{IsKeyable}
 use Rattle.flow_key.specs.declared.keyed.Keyed.{Keyed}
+use Rattle.packet_decode.specs.Layers.{view_of}
 use Rattle.packet_decode.specs.declared.whole.View.{View}
-use Rattle.suri_base.specs.Capture.{AreFactsOf, IsKey}
+use Rattle.suri_base.specs.Capture.{AreFactsOf, IsKey, IsSeenOf}
 use Rattle.suri_base.specs.Keys.{is_at_most}
 use Rattle.suri_base.specs.Protocols.{is_icmp}
 use Rattle.suri_base.specs.Vlans.{AreVlans}
@@ -13,8 +14,9 @@ use Rattle.suri_base.specs.declared.counter.Counter.{Counter}
 use Rattle.suri_base.specs.declared.facts.Facts.{Facts}
 use Rattle.suri_base.specs.declared.frame.Frame.{Frame}
 use Rattle.suri_base.specs.declared.key.Vlans.{Vlans}
+use Rattle.suri_base.specs.declared.seen.Seen.{Seen}
 use Rattle.suri_base.specs.declared.seen.Seen.TheVariants.{Bears}
-use Rattle.capture_index.specs.Decode.{facts_from, seen_from}
+use Rattle.capture_index.specs.Decode.{facts_from, seen_from, seen_of}
 use Rattle.suri_base.specs.Keys.{IsNameable}
 
 vlans_of_key : (v : View) (k : Keyed) → k ≡ keyed_of v → k.key.vlans ≡ v.vlans
@@ -51,6 +53,14 @@ unfolding keyed_of
 facts_own size frame clock v f is inside tcp icmp key =
     subst (λ (g : Facts). IsKey g.key → AreFactsOf size frame clock g) (sym is)
     (λ key. record { number = refl; time = refl; clock = refl; inside = omega (arith, inside); tcp = tcp; icmp = icmp; key = key }) key
+
+-- what becomes of a frame whose headers say this is its own
+pub seen_own : (size link : ℕ) (frame : Frame) (clock : ℕ) (bytes : List ℕ) (v : View) (f : Facts) → view_of link bytes ≡ Ok v → f ≡ facts_from frame clock v → AreFactsOf size frame clock f
+    → IsSeenOf size frame clock (seen_of link frame clock bytes)
+unfolding seen_of
+seen_own size link frame clock bytes v f view is own =
+    let same : Bears f ≡ seen_from frame clock (view_of link bytes) = ap Bears is ∙ ap (seen_from frame clock) (sym view) in
+    subst (λ (s : Seen). IsSeenOf size frame clock s) same own
 
 -- the facts of a frame have its length
 pub facts_len : (frame : Frame) (clock : ℕ) (view : Result View Counter) (f : Facts) → seen_from frame clock view ≡ Bears f → f.len ≡ frame.len

@@ -38,15 +38,15 @@ lies_inside size before (g ∷ frames) zero f are low = are.2
 lies_inside size before (g ∷ frames) (suc k) f are low = lies_inside size (before + 1) frames k f are.3 (omega (arith, low))
 
 -- what is kept of a part, and one more
-pub part_more : (whole : List Seen) (items now : List Slot) (from k : ℕ) (d s : Seen) (slot : Slot) → from ≤ k → k < length whole → items ≡ map packed (take (k - from) (drop from whole)) → s ≡ get_or whole k d
+pub part_more : (whole : List Seen) (items now : List Slot) (from k : ℕ) (s : Seen) (slot : Slot) → from ≤ k → k < length whole → items ≡ map packed (take (k - from) (drop from whole)) → s ≡ get_or whole k s
     → slot ≡ packed s → now ≡ items ++ slot ∷ [] → now ≡ map packed (take (k + 1 - from) (drop from whole))
-part_more whole items now from k d s slot after low so is kept now_is =
+part_more whole items now from k s slot after low so is kept now_is =
     let at : from + (k - from) ≡ k = omega (arith, after) in
     let more : k - from + 1 ≡ k + 1 - from = omega (arith, after) in
-    let read : get_or (drop from whole) (k - from) d ≡ s = get_or-drop from whole (k - from) d ∙ ap (λ (n : ℕ). get_or whole n d) at ∙ sym is in
+    let read : get_or (drop from whole) (k - from) s ≡ s = get_or-drop from whole (k - from) s ∙ ap (λ (n : ℕ). get_or whole n s) at ∙ sym is in
     let room : k - from < length (drop from whole) = simp (length-drop) (omega (arith, after, low)) in
     now_is ∙ ap (λ (l : List Slot). l ++ slot ∷ []) so ∙ ap (λ (x : Slot). map packed (take (k - from) (drop from whole)) ++ x ∷ []) (kept ∙ ap packed (sym read))
-    ∙ sym (map_more packed (drop from whole) (k - from) d room) ∙ ap (λ (n : ℕ). map packed (take n (drop from whole))) more
+    ∙ sym (map_more packed (drop from whole) (k - from) s room) ∙ ap (λ (n : ℕ). map packed (take n (drop from whole))) more
 
 -- the part between two places that are cut at the end
 pub piece_is : {X : Type 0} (whole : List X) (size place from to : ℕ) → (place ≤ length whole → from ≡ place) → (length whole < place → from ≡ length whole)
@@ -81,15 +81,15 @@ own_wider near size frame clock (Bears f) wide own = record {
 }
 own_wider near size frame clock (Counted counter) wide own = tt
 
--- what is decoded of a frame in the capture is read of it
-pub is_read : (near size link : ℕ) (frame : Frame) (clock : ℕ) (bytes : List ℕ) (s : Seen) → near ≤ size → s ≡ seen_of link frame clock bytes → IsSeenOf near frame clock s
-    → ((f : Facts) → s ≡ Bears f → IsNameable f.key) → IsRead size frame clock s
+-- what becomes of a frame in the capture is read of it
+pub is_read : (near size link : ℕ) (frame : Frame) (clock : ℕ) (bytes : List ℕ) → near ≤ size → IsSeenOf near frame clock (seen_of link frame clock bytes)
+    → ((f : Facts) → seen_of link frame clock bytes ≡ Bears f → IsNameable f.key) → IsRead size frame clock (seen_of link frame clock bytes)
 unfolding seen_of
-is_read near size link frame clock bytes s wide value own nameable =
+is_read near size link frame clock bytes wide own nameable =
     record {
-      own = own_wider near size frame clock s wide own;
+      own = own_wider near size frame clock (seen_of link frame clock bytes) wide own;
       nameable = nameable;
-      len = λ f is. facts_len frame clock (view_of link bytes) f (sym value ∙ is);
+      len = facts_len frame clock (view_of link bytes);
     }
 
 -- what is captured of a frame is as many bytes as it has
@@ -102,9 +102,9 @@ pub near_fits : (bytes : List ℕ) (at len : ℕ) → at + len ≤ length bytes 
 near_fits bytes at len fits = simp (length-take, length-drop) (omega (arith, fits))
 
 -- one frame more is read
-pub read_more : (size from i : ℕ) (frames : List Frame) (clocks : List ℕ) (seen : List Seen) (f : Frame) (c : ℕ) (d s : Seen) → i < length frames → length clocks ≡ length frames → length seen ≡ length frames
-    → AreRead size from i frames clocks seen → s ≡ get_or seen i d → IsRead size (get_or frames i f) (get_or clocks i c) s → AreRead size from (i + 1) frames clocks seen
-read_more size from i frames clocks seen f c d s low as_many count so at one k g b t after before within = by (cases_lt k i)
+pub read_more : (size from i : ℕ) (frames : List Frame) (clocks : List ℕ) (seen : List Seen) (f : Frame) (c : ℕ) (s : Seen) → i < length frames → length clocks ≡ length frames → length seen ≡ length frames
+    → AreRead size from i frames clocks seen → s ≡ get_or seen i s → IsRead size (get_or frames i f) (get_or clocks i c) s → AreRead size from (i + 1) frames clocks seen
+read_more size from i frames clocks seen f c s low as_many count so at one k g b t after before within = by (cases_lt k i)
   where
     by : (k < i) ⊎ (i ≤ k) → IsRead size (get_or frames k g) (get_or clocks k b) (get_or seen k t)
     by (inl h) = so k g b t after h within
@@ -112,7 +112,7 @@ read_more size from i frames clocks seen f c d s low as_many count so at one k g
         let same : i ≡ k = omega (arith, h, before) in
         let frame : get_or frames i f ≡ get_or frames k g = get_or_default frames i f g low ∙ ap (λ (n : ℕ). get_or frames n g) same in
         let clock : get_or clocks i c ≡ get_or clocks k b = get_or_default clocks i c b (omega (arith, low, as_many)) ∙ ap (λ (n : ℕ). get_or clocks n b) same in
-        let is : s ≡ get_or seen k t = at ∙ get_or_default seen i d t (omega (arith, low, count)) ∙ ap (λ (n : ℕ). get_or seen n t) same in
+        let is : s ≡ get_or seen k t = at ∙ get_or_default seen i s t (omega (arith, low, count)) ∙ ap (λ (n : ℕ). get_or seen n t) same in
         subst (λ (x : Seen). IsRead size (get_or frames k g) (get_or clocks k b) x) is
         (subst (λ (n : ℕ). IsRead size (get_or frames k g) n s) clock (subst (λ (x : Frame). IsRead size x (get_or clocks i c) s) frame one))
 

@@ -6,21 +6,22 @@ ghost use Rattle.std.specs.Prelude.{◌≡◌, ◌+◌, ◌-◌, ◌*◌, ◌^�
 ghost use Rattle.suri_base.specs.Frames.{AreNumbered};
 ghost use Rattle.suri_base.specs.Slot.{packed};
 
-use crate::decode::seen_in;
+use crate::decode::slot_in;
 use std::alloc::{AllocError, Global};
-use suri_base::{Frame, Seen, Slot};
+use suri_base::{Frame, Slot};
 
-// What becomes of a frame of a capture with these bytes.
-fn seen_at(link: u32, bytes: &[u8], frame: &Frame, clock: u64) -> Seen
+// What is kept of what becomes of a frame of a capture with these bytes.
+#[inline(always)]
+fn slot_at(link: u32, bytes: &[u8], frame: &Frame, clock: u64) -> Slot
     requires link { IsLink link }
     requires inside { frame.now.at + frame.now.len ≤ length bytes.now }
     requires small { length bytes.now ≤ 2 ^ 30 }
-    ensures value { result ≡ seen_of link frame.now clock (frame_bytes bytes.now frame.now) }
-    ensures read { IsRead (length bytes.now) frame.now clock result }
+    ensures value { result ≡ packed (seen_of link frame.now clock (frame_bytes bytes.now frame.now)) }
+    ensures read { IsRead (length bytes.now) frame.now clock (seen_of link frame.now clock (frame_bytes bytes.now frame.now)) }
 {
     let start = frame.at as usize;
     let end = start + frame.len as usize;
-    seen_in(link, frame, clock, &bytes[start..end])
+    slot_in(link, frame, clock, &bytes[start..end])
 }
 
 // What is kept of the frames from one place up to another.
@@ -43,8 +44,7 @@ fn decode_range(
 {
     let mut slots = Vec::with_capacity(alloc, to - from)?;
     for no in from..to {
-        let seen = seen_at(link, bytes, &frames[no], clocks[no]);
-        slots.push(Slot::of(&seen))?;
+        slots.push(slot_at(link, bytes, &frames[no], clocks[no]))?;
     }
     Ok(slots)
 }
