@@ -10,6 +10,7 @@ mod block;
 mod gates;
 mod gathering;
 mod memory;
+mod pair_gate;
 mod reading;
 mod repeat;
 #[cfg(test)]
@@ -22,6 +23,7 @@ pub use block::BLOCK;
 pub use gates::{Gate, OpenGate};
 pub use gathering::{Gathered, Unwritten};
 pub use memory::{MemSink, MemSource};
+pub use pair_gate::PairGate;
 pub use reading::{Unread, read_whole};
 pub use repeat::RepeatSource;
 pub use traits::{Failed, Sink, Source};

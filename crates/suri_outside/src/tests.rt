@@ -1,7 +1,7 @@
 //! What no clause says: that each call succeeds with ample memory, and what passes through std.
 use crate::{
-    BLOCK, Failed, Gate, Gathered, MemSink, MemSource, OpenGate, RepeatSource, Sink, Source,
-    StdSink, StdSource, Unread, read_whole, write_whole,
+    BLOCK, Failed, Gate, Gathered, MemSink, MemSource, OpenGate, PairGate, RepeatSource, Sink,
+    Source, StdSink, StdSource, Unread, read_whole, write_whole,
 };
 use std::io;
 use std::io::{ErrorKind, Read, Write};
@@ -206,5 +206,28 @@ fn texts_are_gathered_before_they_are_written(rt: HostRuntime) -> Result<(), Fai
     assert_eq!(rt; gathered.finish(&mut sink), Ok(()));
     assert_eq!(rt; sink.bytes().len(), 66_008);
     OpenGate.at(0, 1, 4);
+    Ok(())
+}
+
+#[test]
+fn a_worker_is_held_until_another_ends_its_round(rt: HostRuntime) -> Result<(), Fail> {
+    let gate = PairGate::new(0, 1);
+    assert!(rt; !gate.met());
+    // The held worker's own end, and the other's batches, open nothing.
+    gate.at(0, 0, 4);
+    gate.at(1, 0, 2);
+    gate.at(1, 0, 4);
+    assert!(rt; !gate.met());
+    gate.at(0, 0, 2);
+    assert!(rt; gate.met());
+    assert!(rt; !gate.gave_up());
+    let alone = PairGate::new(0, 1);
+    alone.at(0, 0, 2);
+    assert!(rt; alone.gave_up());
+    assert!(rt; !alone.met());
+    // It is held at its first batch alone.
+    alone.at(0, 0, 2);
+    alone.at(1, 0, 4);
+    assert!(rt; alone.met());
     Ok(())
 }
