@@ -1,0 +1,10 @@
+pub mod Beginning
+pub mod Adding
+pub mod Handing
+pub mod Stepping
+pub mod Counted
+pub mod Following
+pub mod Rounds
+pub mod Letting
+pub mod Leaving
+pub mod Waiting

@@ -1,0 +1,5 @@
+pub mod Beginning
+pub mod Adding
+pub mod Staying
+pub mod Passing
+pub mod Leaving
