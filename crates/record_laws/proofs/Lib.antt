@@ -1,0 +1,4 @@
+pub mod Closing
+pub mod Judging
+pub mod Recording
+pub mod Gathering
