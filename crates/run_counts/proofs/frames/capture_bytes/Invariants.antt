@@ -1,0 +1,9 @@
+use Rattle.std.proofs.Common.{◌≡◌, ◌≤◌, ◌*◌, ◌^◌, take}
+use Rattle.std.specs.Prelude.{sum_by}
+use Rattle.run_counts.proofs.frames.capture_bytes.Given as goal
+
+abbrev pub invariant-loop-index : goal.invariant-loop-index
+invariant-loop-index l = record {
+  counted : l.bytes ≡ sum_by (λ f. f.len) (take l.index l.capture.frames);
+  small : l.bytes ≤ l.index * 2 ^ 32;
+}

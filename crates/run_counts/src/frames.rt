@@ -1,0 +1,68 @@
+//! What is counted of the frames of a capture.
+ghost use Rattle.run_counts.specs.Frames.{all_counted, counts_of, len_in, with_frame};
+ghost use Rattle.std.specs.Prelude.{◌≡◌, ◌-◌, ◌^◌, ◌<◌, ◌≤◌, Some, length, slice_get, sum_by};
+ghost use Rattle.suri_base.specs.Capture.{packets_in};
+ghost use Rattle.suri_base.specs.declared.seen.Seen.{Seen};
+
+use crate::counts::Counts;
+use suri_base::Capture;
+
+// Counts the frame of this number, where it bears no flow.
+fn add_frame(counts: &mut Counts, capture: &Capture, no: u32)
+    requires number { (1 ≤ no) × (no ≤ length capture.now.frames) }
+    requires room { all_counted counts.old < 2 ^ 32 }
+    ensures { (seen : Seen) → slice_get capture.now.seen (no - 1) ≡ Some seen → counts.new ≡ with_frame seen counts.old }
+{
+    match capture.counter(no) {
+        Some(counter) => counts.add(counter),
+        None => {}
+    }
+}
+
+/// The frames that bear no flow, each under its decoder counter.
+pub fn count_frames(capture: &Capture) -> Counts
+    ensures { result ≡ counts_of capture.now.seen }
+{
+    let mut counts = Counts::none();
+    let count = capture.count();
+    for index in 0..count {
+        add_frame(&mut counts, capture, index + 1);
+    }
+    counts
+}
+
+/// The captured bytes of all frames, link headers included.
+pub fn capture_bytes(capture: &Capture) -> u64
+    ensures { result ≡ sum_by (λ f. f.len) capture.now.frames }
+{
+    let mut bytes: u64 = 0;
+    let count = capture.count();
+    for index in 0..count {
+        let frame = capture.frame(index + 1);
+        bytes += u64::from(frame.len);
+    }
+    bytes
+}
+
+// The captured bytes of the frame of this number; 0 where it bears no flow.
+fn packet_len(capture: &Capture, no: u32) -> u32
+    requires { (1 ≤ no) × (no ≤ length capture.now.frames) }
+    ensures { (seen : Seen) → slice_get capture.now.seen (no - 1) ≡ Some seen → result ≡ len_in seen }
+{
+    match capture.counter(no) {
+        Some(_) => 0,
+        None => capture.len(no),
+    }
+}
+
+/// The captured bytes of all frames that bear a flow, link headers included. The records of a run have no more.
+pub fn packet_bytes(capture: &Capture) -> u64
+    ensures { result ≡ sum_by (λ f. f.len) (packets_in capture.now.seen) }
+{
+    let mut bytes: u64 = 0;
+    let count = capture.count();
+    for index in 0..count {
+        bytes += u64::from(packet_len(capture, index + 1));
+    }
+    bytes
+}
