@@ -1,0 +1,7 @@
+pub mod Whole
+pub mod Puts
+pub mod Telling
+pub mod Lawful
+pub mod Closed
+pub mod Waiting
+pub mod Beginning

@@ -1,0 +1,10 @@
+pub mod Parts
+pub mod Choosing
+pub mod Seen
+pub mod Sweeps
+pub mod Queues
+pub mod Few
+pub mod Resting
+pub mod Stepping
+pub mod Going
+pub mod Beginning

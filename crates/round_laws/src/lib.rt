@@ -1,0 +1,6 @@
+//! What holds between two rounds of a run, and that it goes on from round to round.
+#![tactic(auto)]
+
+mod laws;
+
+pub use laws::{roles_may_play, rounds_begin, rounds_go_on};
