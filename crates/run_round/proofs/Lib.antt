@@ -1,0 +1,7 @@
+pub mod Sent
+pub mod Taking
+pub mod Handing
+pub mod Rounding
+pub mod Parting
+pub mod Closing
+pub mod Accounting
