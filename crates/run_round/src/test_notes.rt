@@ -1,35 +1,35 @@
 //! Entries of histories, in short, for the tests. Each begins with the number of its role and of the role's step.
 use suri_base::{App, BucketNote, Entry, Offer, PoolNote};
 
-pub fn entry<N>(role: u32, step: u64, note: N) -> Entry<N> {
+pub(crate) fn entry<N>(role: u32, step: u64, note: N) -> Entry<N> {
     Entry { role, step, note }
 }
 
-pub fn mode(role: u32, step: u64, on: bool) -> Entry<PoolNote> {
+pub(crate) fn mode(role: u32, step: u64, on: bool) -> Entry<PoolNote> {
     entry(role, step, PoolNote::Mode { on })
 }
 
-pub fn took(role: u32, step: u64, no: u32) -> Entry<PoolNote> {
+pub(crate) fn took(role: u32, step: u64, no: u32) -> Entry<PoolNote> {
     entry(role, step, PoolNote::Took { no })
 }
 
-pub fn full(role: u32, step: u64, no: u32, out: u32, limit: u32) -> Entry<PoolNote> {
+pub(crate) fn full(role: u32, step: u64, no: u32, out: u32, limit: u32) -> Entry<PoolNote> {
     entry(role, step, PoolNote::Full { no, out, limit })
 }
 
-pub fn turn(role: u32, step: u64, run: u32, no: u32) -> Entry<PoolNote> {
+pub(crate) fn turn(role: u32, step: u64, run: u32, no: u32) -> Entry<PoolNote> {
     entry(role, step, PoolNote::Turn { run, no })
 }
 
-pub fn over(role: u32, step: u64, round: u32, ended: bool) -> Entry<PoolNote> {
+pub(crate) fn over(role: u32, step: u64, round: u32, ended: bool) -> Entry<PoolNote> {
     entry(role, step, PoolNote::Over { round, ended })
 }
 
-pub fn put(role: u32, step: u64, run: u32) -> Entry<PoolNote> {
+pub(crate) fn put(role: u32, step: u64, run: u32) -> Entry<PoolNote> {
     entry(role, step, PoolNote::Put { run })
 }
 
-pub fn found(
+pub(crate) fn found(
     role: u32,
     step: u64,
     no: u32,
@@ -51,7 +51,7 @@ pub fn found(
     )
 }
 
-pub fn missing(
+pub(crate) fn missing(
     role: u32,
     step: u64,
     no: u32,
@@ -71,23 +71,23 @@ pub fn missing(
     )
 }
 
-pub fn made(role: u32, step: u64, no: u32, offer: Offer) -> Entry<BucketNote> {
+pub(crate) fn made(role: u32, step: u64, no: u32, offer: Offer) -> Entry<BucketNote> {
     entry(role, step, BucketNote::Made { no, offer })
 }
 
-pub fn refused(role: u32, step: u64, no: u32) -> Entry<BucketNote> {
+pub(crate) fn refused(role: u32, step: u64, no: u32) -> Entry<BucketNote> {
     entry(role, step, BucketNote::Refused { no })
 }
 
-pub fn stored(role: u32, step: u64, no: u32) -> Entry<BucketNote> {
+pub(crate) fn stored(role: u32, step: u64, no: u32) -> Entry<BucketNote> {
     entry(role, step, BucketNote::Stored { no })
 }
 
-pub fn stopped(role: u32, step: u64, no: u32) -> Entry<BucketNote> {
+pub(crate) fn stopped(role: u32, step: u64, no: u32) -> Entry<BucketNote> {
     entry(role, step, BucketNote::Stopped { no })
 }
 
-pub fn closed(
+pub(crate) fn closed(
     role: u32,
     step: u64,
     no: u32,
@@ -108,19 +108,19 @@ pub fn closed(
     )
 }
 
-pub fn idle(role: u32, step: u64, no: u32) -> Entry<BucketNote> {
+pub(crate) fn idle(role: u32, step: u64, no: u32) -> Entry<BucketNote> {
     entry(role, step, BucketNote::Idle { no, app: App::None })
 }
 
-pub fn victim(role: u32, step: u64, no: u32, run: u32) -> Entry<BucketNote> {
+pub(crate) fn victim(role: u32, step: u64, no: u32, run: u32) -> Entry<BucketNote> {
     entry(role, step, BucketNote::Victim { no, run })
 }
 
-pub fn all_in_use(role: u32, step: u64, no: u32, count: u32) -> Entry<BucketNote> {
+pub(crate) fn all_in_use(role: u32, step: u64, no: u32, count: u32) -> Entry<BucketNote> {
     entry(role, step, BucketNote::AllInUse { no, count })
 }
 
-pub fn swept(
+pub(crate) fn swept(
     role: u32,
     step: u64,
     round: u32,
@@ -140,6 +140,6 @@ pub fn swept(
     )
 }
 
-pub fn drained(role: u32, step: u64, count: u32) -> Entry<BucketNote> {
+pub(crate) fn drained(role: u32, step: u64, count: u32) -> Entry<BucketNote> {
     entry(role, step, BucketNote::Drained { count })
 }

@@ -31,7 +31,7 @@ const TCP: u8 = 6;
 /// A packet: UDP without payload from this host, port 1000, to the next host, port 2000; or TCP from 128.232.110.120, port 34855, to
 /// 66.35.250.204, port 80.
 #[derive(Clone, Copy)]
-pub struct Packet<'a> {
+pub(crate) struct Packet<'a> {
     seconds: u32,
     proto: u8,
     host: u8,
@@ -41,7 +41,7 @@ pub struct Packet<'a> {
 }
 
 /// A UDP packet, so many seconds behind the first.
-pub fn udp(seconds: u32, host: u8) -> Packet<'static> {
+pub(crate) fn udp(seconds: u32, host: u8) -> Packet<'static> {
     Packet {
         seconds,
         proto: UDP,
@@ -53,7 +53,7 @@ pub fn udp(seconds: u32, host: u8) -> Packet<'static> {
 }
 
 /// A TCP packet at the time of the first.
-pub fn tcp(flags: u8, seq: u32, payload: &[u8]) -> Packet<'_> {
+pub(crate) fn tcp(flags: u8, seq: u32, payload: &[u8]) -> Packet<'_> {
     Packet {
         seconds: 0,
         proto: TCP,
@@ -91,7 +91,7 @@ fn frame_of(alloc: Global, packet: &Packet<'_>) -> Result<Vec<u8>, Fail> {
 }
 
 /// The capture of these packets.
-pub fn capture_of(alloc: Global, packets: &[Packet<'_>]) -> Result<Vec<u8>, Fail> {
+pub(crate) fn capture_of(alloc: Global, packets: &[Packet<'_>]) -> Result<Vec<u8>, Fail> {
     let mut capture = Vec::new(alloc);
     capture.extend_from_slice(&HEADER)?;
     for packet in packets {
@@ -107,7 +107,7 @@ pub fn capture_of(alloc: Global, packets: &[Packet<'_>]) -> Result<Vec<u8>, Fail
 }
 
 /// One worker and one bucket, batches of so many packets, room for so many flows and segments.
-pub fn layout_of(batch: u32, memcap: u32, segments: u32) -> Layout {
+pub(crate) fn layout_of(batch: u32, memcap: u32, segments: u32) -> Layout {
     Layout {
         workers: 1,
         batch,
@@ -135,7 +135,7 @@ fn is_layout(layout: &Layout) -> bool
 }
 
 /// A run over a capture file in so many threads.
-pub fn run_in<R: Threads + Wait + Sync>(
+pub(crate) fn run_in<R: Threads + Wait + Sync>(
     rt: &R,
     alloc: Global,
     bytes: Vec<u8>,
@@ -157,7 +157,7 @@ pub fn run_in<R: Threads + Wait + Sync>(
 }
 
 /// A run over a capture file whose roles take turns.
-pub fn turns<R: Threads + Wait + Sync>(
+pub(crate) fn turns<R: Threads + Wait + Sync>(
     rt: &R,
     alloc: Global,
     bytes: Vec<u8>,
@@ -167,7 +167,7 @@ pub fn turns<R: Threads + Wait + Sync>(
 }
 
 /// The histories of a run with one bucket are these.
-pub fn assert_trail(
+pub(crate) fn assert_trail(
     rt: &impl Abort,
     trail: &Trail,
     pool: &[Entry<PoolNote>],
@@ -183,7 +183,7 @@ pub fn assert_trail(
 }
 
 /// The records are of these runs, which ended for these reasons, by the table of an emergency or not.
-pub fn assert_reasons(rt: &impl Abort, lines: &[FlowLine], wanted: &[(u32, Reason, bool)]) {
+pub(crate) fn assert_reasons(rt: &impl Abort, lines: &[FlowLine], wanted: &[(u32, Reason, bool)]) {
     assert_eq!(rt; lines.len(), wanted.len());
     for (line, (run, reason, emergency)) in lines.iter().zip(wanted) {
         assert_eq!(rt; line.sums.first_no, *run);
