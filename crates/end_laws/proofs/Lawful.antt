@@ -1,13 +1,14 @@
 -- The whole histories are a lawful trail. Up to the last meeting the acts of the rounds' roles are what stands between two rounds after the last
 -- round, and each of these roles had then ended its script; since then only the end role acted, by its own script. What a role did as it saw
 -- the histories is what it did in the whole ones, since what came later is not its own.
-use Rattle.std.proofs.Common.{◌≡◌, ◌≢◌, ℕ, suc, ◌==◌, ◌+◌, ◌-◌, ◌<◌, All, Bool, true, cond, List, [], ◌++◌, length, reverse, get_or, Some, ⊎_elim, refl, sym, ◌∙◌, ap, subst, arith}
+use Rattle.std.proofs.Common.{◌≡◌, ◌≢◌, ℕ, ◌==◌, ◌+◌, ◌-◌, ◌<◌, Bool, true, cond, List, [], ◌++◌, length, reverse, get_or, Some, ⊎_elim, refl, sym, ◌∙◌, ap, subst, arith}
 use Rattle.std.proofs.lemmas.Bool.Decides.{eqb_tells}
 use Rattle.std.specs.List.{list_all}
 use Rattle.bucket_laws.proofs.Tests.{other, same}
-use Rattle.end_laws.proofs.Puts.{all_of_last, end_puts_back, only_own_puts, part_puts_back, puts_back}
+use Rattle.end_laws.proofs.Last.{grown_by_last, whole_roles}
+use Rattle.end_laws.proofs.Puts.{end_puts_back, only_own_puts, part_puts_back, puts_back}
 use Rattle.end_laws.proofs.Telling.{lines_and_last, lines_from}
-use Rattle.end_laws.proofs.Whole.{has_grown, none_since, some_of, whole_grew, whole_legal}
+use Rattle.end_laws.proofs.Whole.{has_grown, some_of, whole_grew, whole_legal}
 use Rattle.end_laws.specs.Ended.{AreOwned, HaveAllEnded, IsRunEnd, TookOver, all_finished, lines_in}
 use Rattle.flow_object.specs.Ending.{EndedFlow}
 use Rattle.flow_object.specs.declared.outcome.FlowLine.{FlowLine}
@@ -21,6 +22,7 @@ use Rattle.role_steps.specs.declared.roles.Passes.{Passes}
 use Rattle.role_steps.specs.declared.roles.Recycler.{Recycler}
 use Rattle.role_steps.specs.declared.roles.Shared.{Shared}
 use Rattle.round_laws.specs.Between.{Between}
+use Rattle.round_laws.specs.Cuts.{HasGrownBy, IsInRounds}
 use Rattle.run_laws.proofs.Rounded.{end_puts}
 use Rattle.run_laws.proofs.Rounding.{manager_over, worker_over}
 use Rattle.run_laws.specs.RoundEnd.{next_queue, only_puts}
@@ -127,26 +129,22 @@ module _ (s : Shared) (rs : List Role) (e f g : Recycler) (t : Histories) (b : B
     drain = subst (λ (a : List Act). ending_after w (record { queue = left_over w b.at.hands; drained = 0 }) a ≡ Some (record { queue = []; drained = w.layout.rows })) (sym acts_end) drained;
   }
 
-  -- what came to the pool since the last meeting
-  first : 0 < ender w
-  first = omega arith
+  -- what came since the last meeting is the end role's
+
+  grew_by : HasGrownBy (ender w) b.t t
+  grew_by = grown_by_last (ender w) b.t t (omega arith) role_grew (whole_roles w t (whole_legal s t b.laid h.whole))
 
   abbrev since : List (Entry PoolNote)
-  since = (role_grew 0 first).pool.0
+  since = grew_by.pool.0
 
   grew_pool : t.pool ≡ since ++ b.t.pool
-  grew_pool = (role_grew 0 first).pool.1
+  grew_pool = grew_by.pool.1
 
   only_end_puts : only_puts since ≡ true
   only_end_puts =
-      let whole = whole_legal s t b.laid h.whole in
-      let e : count_roles w ≡ suc (ender w) = omega arith in
-      let mine = all_of_last (ender w) since b.t.pool
-      (subst (λ (n : ℕ). All (λ x. x.role < n) (since ++ b.t.pool)) e (subst (λ (l : List (Entry PoolNote)). All (λ x. x.role < count_roles w) l) grew_pool whole.pool_roles))
-      (λ k low. none_since k since b.t.pool t.pool grew_pool (role_grew k low).pool) in
       let puts = part_puts_back (ender w) 0 d.now
       (end_puts_back w (record { queue = left_over w b.at.hands; drained = 0 }) d.now (record { queue = []; drained = w.layout.rows }) drained) in
-      only_own_puts (ender w) since b.t.pool mine
+      only_own_puts (ender w) since b.t.pool grew_by.pool.2
       (subst (λ (l : List (Entry PoolNote)). list_all (λ (x : Entry Act). puts_back x.note) (entries_of (ender w) (pool_acts l)) ≡ true) grew_pool
       (subst (λ (l : List (Entry Act)). list_all (λ (x : Entry Act). puts_back x.note) l ≡ true) (sym end_own.pool) puts))
 
@@ -176,6 +174,10 @@ module _ (s : Shared) (rs : List Role) (e f g : Recycler) (t : Histories) (b : B
       (λ k j r low at. let same : k ≡ j = omega (arith, at) in subst (λ (i : ℕ). LinesOf w t (reverse (finished (acts i))) (lines_of (get_or rs k r).part)) same (role_told k r low)))
       end_told
 
+  -- the rounds of the run are those that stood after the last one
+  in_rounds : IsInRounds w t acts
+  in_rounds = record { last = b.t; done = b.at.acts; cuts = b.cuts; all_done = λ role low. sym (acts_are role low); rest = grew_by }
+
   pub run_ended : IsRunEnd (setup_of s) t (lines_in rs ++ g.lines.items)
   unfolding scripted
-  run_ended = record { lawful = record { scripted = scripted; puts = due }; told = all_told }
+  run_ended = record { lawful = record { scripted = scripted; puts = due }; rounds = in_rounds; told = all_told }

@@ -1,5 +1,6 @@
 pub mod Whole
 pub mod Puts
+pub mod Last
 pub mod Telling
 pub mod Lawful
 pub mod Closed

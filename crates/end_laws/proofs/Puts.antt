@@ -1,8 +1,6 @@
--- What the end role does on the pool of flow objects: by its script it only gives objects back. Entries of which no other role has one are
--- all its own, so they are all puts.
-use Rattle.std.proofs.Common.{◌≡◌, ◌≢◌, ℕ, suc, ◌==◌, ◌+◌, ◌<◌, All, Bool, true, false, cond, List, [], ◌∷◌, ◌++◌, length, Option, Some, None, ⊎_elim, refl, sym, ◌∙◌, subst, arith}
-use Rattle.std.proofs.lemmas.Bool.Decides.{eqb_tells}
-use Rattle.std.proofs.lemmas.List.Elements.{All-tail}
+-- What the end role does on the pool of flow objects: by its script it only gives objects back. So entries that are all its own are all puts.
+use Rattle.std.proofs.Common.{◌≡◌, ℕ, ◌==◌, ◌+◌, All, Bool, true, false, cond, List, [], ◌∷◌, ◌++◌, length, Option, Some, None, refl, subst}
+use Rattle.std.proofs.lemmas.List.Elements.{All-head, All-tail}
 use Rattle.std.specs.List.{list_all}
 use Rattle.bucket_laws.proofs.Tests.{all_of, both}
 use Rattle.bucket_laws.specs.Leaving.{Gone}
@@ -11,7 +9,7 @@ use Rattle.run_rules.specs.Acts.{Act, on_bucket, on_pool, on_segments, part, pla
 use Rattle.run_rules.specs.Ending.{Ending, end_on, ended_on, ending_after, with_queue}
 use Rattle.run_rules.specs.Serving.{serve_pool}
 use Rattle.run_rules.specs.Setup.{Setup}
-use Rattle.suri_base.proofs.Histories.{entries_other, entries_own}
+use Rattle.suri_base.proofs.Histories.{entries_own}
 use Rattle.suri_base.specs.History.{entries_of, entry}
 use Rattle.suri_base.specs.declared.entry.Entry.{Entry}
 use Rattle.suri_base.specs.declared.entry.PoolNote.{PoolNote}
@@ -65,38 +63,13 @@ part_puts_back role place (a ∷ acts) h =
     by true x y = all_of (puts_back a) (list_all (λ (e : Entry Act). puts_back e.note) (part role place acts)) x y
     by false x y = y
 
--- entries of one role alone
-abbrev pub AreOf : {N : Type 0} → ℕ → List (Entry N) → Type 0
-AreOf role [] = Unit {0}
-AreOf role (e ∷ es) = (e.role ≡ role) × AreOf role es
-
-not_nil : {A : Type 0} (x : A) (xs : List A) → x ∷ xs ≡ [] → ⊥
-not_nil x xs h = cc
-
--- where no role below the last one has an entry, all are the last one's
-pub all_of_last : {N : Type 0} (last : ℕ) (since old : List (Entry N)) → All (λ e. e.role < suc last) (since ++ old) → ((k : ℕ) → k < last → entries_of k since ≡ [])
-    → AreOf last since
-all_of_last last [] old low none = tt
-all_of_last {N} last (e ∷ since) old low none =
-    let here : e.role < suc last = low 0 e (omega arith) in
-    ⊎_elim
-    (λ x. (x.1, all_of_last last since old (All-tail (λ (d : Entry N). d.role < suc last) e (since ++ old) low) (λ k l. sym (entries_other k since e (apart k x.1 l)) ∙ none k l)))
-    (λ x. absurd (not_nil e (entries_of e.role since) (sym (entries_own e.role since e refl) ∙ none e.role (below here x.1))))
-    (eqb_tells e.role last)
-  where
-    apart : (k : ℕ) → e.role ≡ last → k < last → e.role ≢ k
-    apart k x l y = omega (arith, x, l, y)
-
-    below : e.role < suc last → e.role ≢ last → e.role < last
-    below l n = omega (arith, l, n)
-
 -- entries of one role that are puts as its acts are puts
-pub only_own_puts : (role : ℕ) (since old : List (Entry PoolNote)) → AreOf role since
+pub only_own_puts : (role : ℕ) (since old : List (Entry PoolNote)) → All (λ e. e.role ≡ role) since
     → list_all (λ (e : Entry Act). puts_back e.note) (entries_of role (pool_acts (since ++ old))) ≡ true → only_puts since ≡ true
 only_own_puts role [] old o h = refl
 only_own_puts role (e ∷ since) old o h =
     let d = entry e.role e.step (on_pool e.note (length (since ++ old) + 1)) in
-    let own = entries_own role (pool_acts (since ++ old)) d o.0 in
+    let own = entries_own role (pool_acts (since ++ old)) d (All-head (λ (x : Entry PoolNote). x.role ≡ role) e since o) in
     let k = both (put_in e.note == 1) (list_all (λ (e : Entry Act). puts_back e.note) (entries_of role (pool_acts (since ++ old))))
     (subst (λ (l : List (Entry Act)). list_all (λ (e : Entry Act). puts_back e.note) l ≡ true) own h) in
-    all_of (put_in e.note == 1) (only_puts since) k.0 (only_own_puts role since old o.1 k.1)
+    all_of (put_in e.note == 1) (only_puts since) k.0 (only_own_puts role since old (All-tail (λ (x : Entry PoolNote). x.role ≡ role) e since o) k.1)

@@ -12,6 +12,7 @@ use Rattle.role_steps.specs.Roles.{setup_of}
 use Rattle.role_steps.specs.declared.roles.Passes.{Passes}
 use Rattle.role_steps.specs.declared.roles.Recycler.{Recycler}
 use Rattle.role_steps.specs.declared.roles.Shared.{Shared}
+use Rattle.round_laws.specs.Cuts.{IsInRounds}
 use Rattle.run_rules.specs.Histories.{Histories}
 use Rattle.run_rules.specs.Acts.{Act}
 use Rattle.run_rules.specs.Lawful.{AreLawful}
@@ -53,7 +54,8 @@ abbrev pub all_finished : (ℕ → List Act) → ℕ → List ℕ
 all_finished acts zero = []
 all_finished acts (suc n) = all_finished acts n ++ reverse (finished (acts n))
 
--- the histories are those of a lawful trail, and the lines are those of the runs that its roles finished
+-- the histories are those of a lawful trail, round after round, and the lines are those of the runs that its roles finished
 pub record IsRunEnd (w : Setup) (t : Histories) (lines : List FlowLine) : Type 0 where
   pub lawful : AreLawful w t
+  pub rounds : IsInRounds w t lawful.scripted.acts
   pub told : LinesOf w t (all_finished lawful.scripted.acts (roles w)) lines

@@ -11,11 +11,13 @@ use Rattle.role_steps.specs.Items.{Items, LinesOf}
 use Rattle.role_steps.specs.Roles.{setup_of}
 use Rattle.role_steps.specs.declared.roles.Recycler.{Recycler}
 use Rattle.role_steps.specs.declared.roles.Shared.{Shared}
+use Rattle.round_laws.proofs.Cutting.{first_cut}
 use Rattle.round_laws.proofs.Queues.{none_gathered}
 use Rattle.round_laws.specs.Between.{Between, Rests}
+use Rattle.run_laws.proofs.Parts.{met}
 use Rattle.run_laws.specs.RoundEnd.{IsRoundEnd, next_queue}
 use Rattle.run_laws.specs.Setting.{IsLayout}
-use Rattle.run_rules.specs.Acts.{AreActs, AreMet, bucket_acts}
+use Rattle.run_rules.specs.Acts.{AreActs, bucket_acts}
 use Rattle.run_rules.specs.Histories.{Histories, bucket_at}
 use Rattle.run_rules.specs.Lawful.{waited}
 use Rattle.run_rules.specs.Manager.{new_manager}
@@ -38,9 +40,10 @@ module _ (s : Shared) where
   blank_bucket b = no_entries s.buckets.items b
 
   -- of no role there is any entry
-  blank_acts : (role : ℕ) → AreMet w (blank s) role []
+  blank_acts : (role : ℕ) → AreActs w (blank s) role []
   blank_acts role = record {
     pool = refl;
+    segments = refl;
     buckets = λ b low. ap (λ (h : List (Entry BucketNote)). entries_of role (bucket_acts w b h)) (blank_bucket b);
     within = refl;
   }
@@ -55,7 +58,7 @@ module _ (s : Shared) where
     buckets = λ b low. subst (λ (h : List (Entry BucketNote)). IsLegal (fixed_at w b) h) (sym (blank_bucket b)) tt;
     acts = λ role. [];
     hands = λ role. [];
-    own = λ role low. blank_acts role;
+    own = λ role low. met w (blank s) role [] (blank_acts role);
     work = λ role low. (refl, refl);
     manage = record { sweep = new_manager; stood = refl; rests = refl; round = refl; empty = refl; held = refl };
     recycle = ap Some none_waits;
@@ -87,6 +90,7 @@ module _ (s : Shared) where
     count = st.count;
     t = blank s;
     at = blank_end;
+    cuts = first_cut w (blank s) (λ role. []) (record { at = blank_end; acts_are = λ role. refl; own = λ role low. blank_acts role });
     rests = λ k d low. rests_new k (get_or all k d) (st.roles k d low);
     idle = record {
       fits = st.ender.fits;

@@ -15,6 +15,7 @@ use Rattle.role_steps.specs.Roles.{seen, setup_of}
 use Rattle.role_steps.specs.declared.roles.Recycler.{Recycler}
 use Rattle.role_steps.specs.declared.roles.Shared.{Shared}
 use Rattle.round_laws.proofs.Choosing.{Chosen, chosen}
+use Rattle.round_laws.proofs.Cutting.{next_cut}
 use Rattle.round_laws.proofs.Few.{first_queue}
 use Rattle.round_laws.proofs.Parts.{recycler_kind}
 use Rattle.round_laws.proofs.Queues.{items_in, waits_next}
@@ -26,7 +27,7 @@ use Rattle.round_laws.specs.Playing.{AllPlayed, AreHandedOn, hands_in, waits_for
 use Rattle.run_laws.proofs.Parts.{met}
 use Rattle.run_laws.proofs.Rounded.{puts_first, puts_go_on}
 use Rattle.run_laws.specs.RoundEnd.{IsRoundEnd, next_queue}
-use Rattle.run_rules.specs.Acts.{Act, AreActs, AreMet}
+use Rattle.run_rules.specs.Acts.{Act, AreActs}
 use Rattle.run_rules.specs.Growing.{HasGrown}
 use Rattle.run_rules.specs.Histories.{Histories, bucket_at}
 use Rattle.run_rules.specs.Lawful.{PutsAreDue, gathered, nth, waited}
@@ -139,10 +140,10 @@ module _
         lines = m.lines ∙ b.idle.lines;
       }
 
-      own : (role : ℕ) → role < roles w → AreMet w new role (acts role)
+      own : (role : ℕ) → role < roles w → AreActs w new role (acts role)
       own role real = ⊎_elim
-          (λ is. subst (λ (n : ℕ). AreMet w new n (acts n)) (sym is.1) (subst (λ (l : List Act). AreMet w new (ender w) l) (sym ender_none) (met w new (ender w) [] ender_own)))
-          (λ not. met w new role (acts role) (rests_at role (omega (arith, real, not.1))).own)
+          (λ is. subst (λ (n : ℕ). AreActs w new n (acts n)) (sym is.1) (subst (λ (l : List Act). AreActs w new (ender w) l) (sym ender_none) ender_own))
+          (λ not. (rests_at role (omega (arith, real, not.1))).own)
           (eqb_tells role (ender w))
 
       manage : SweptRounds w (suc round) (acts (manager w)) (hands (manager w))
@@ -160,7 +161,7 @@ module _
         buckets = λ k real. legal_is (fixed_at w k) (bucket_at k new.buckets) (seen_answers s f.passes m.ender.fits k real b.laid.shared);
         acts = acts;
         hands = hands;
-        own = own;
+        own = λ role real. met w new role (acts role) (own role real);
         work = λ role real. (c.holds role (omega (arith, real))).work real;
         manage = manage;
         recycle = recycle;
@@ -200,6 +201,9 @@ module _
           subst (λ (r : Role). Items w new (next_queue w hands) (waiting_of r.part)) (any_default handed (recycler w) any d (omega (arith, real, long_handed)))
           (subst (λ (l : List EndedFlow). Items w new (next_queue w hands) l) (sym whole) gathered_items)
 
+      grown : HasGrown old new
+      grown = subst (λ (x : Histories). HasGrown x new) b.idle.knows m.ender.grown
+
       between : Between s (suc round) handed f
       between = record {
         laid = b.laid;
@@ -207,11 +211,10 @@ module _
         count = long_handed;
         t = new;
         at = ended;
+        cuts = next_cut w old new round b.at.acts acts b.cuts (record { at = ended; acts_are = λ role. refl; own = own }) grown (λ role. ((c.choice role).0, refl));
         rests = λ k d real. let here : k < count = omega (arith, real, long_handed) in subst (λ (r : Role). Rests s new k (acts k) r) (any_default handed k any d real) (rests_at k here);
         idle = idle;
-        puts =
-            let grown = subst (λ (x : Histories). HasGrown x new) b.idle.knows m.ender.grown in
-            puts_on w old new round (omega (arith, low)) b.at ended left (λ role real. refl) grown.pool.0 grown.pool.1 b.puts;
+        puts = puts_on w old new round (omega (arith, low)) b.at ended left (λ role real. refl) grown.pool.0 grown.pool.1 b.puts;
         waiting = waiting;
       }
 

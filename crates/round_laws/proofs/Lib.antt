@@ -6,5 +6,13 @@ pub mod Queues
 pub mod Few
 pub mod Resting
 pub mod Stepping
+pub mod Cutting
 pub mod Going
 pub mod Beginning
+pub mod Notes
+pub mod WorkRounds
+pub mod Dealing
+pub mod SweepRounds
+pub mod SweptAll
+pub mod Rising
+pub mod Later

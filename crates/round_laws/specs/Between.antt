@@ -6,6 +6,7 @@ use Rattle.role_steps.specs.Items.{Items, LinesOf}
 use Rattle.role_steps.specs.Roles.{Fits, IsShared, number_of, seen, setup_of}
 use Rattle.role_steps.specs.declared.roles.Recycler.{Recycler}
 use Rattle.role_steps.specs.declared.roles.Shared.{Shared}
+use Rattle.round_laws.specs.Cuts.{HasCuts}
 use Rattle.run_laws.specs.RoundEnd.{IsRoundEnd, next_queue}
 use Rattle.run_laws.specs.Setting.{IsLayout}
 use Rattle.run_rules.specs.Acts.{Act, AreActs}
@@ -44,13 +45,14 @@ pub record IsIdle (s : Shared) (t : Histories) (e : Recycler) : Type 0 where
   pub waiting : e.waiting.items ≡ []
   pub lines : e.lines.items ≡ []
 
--- so many rounds were ended by all roles, and all have met. What waits for the recycler is what the script says, item by item
+-- so many rounds were ended by all roles, and all have met, after each of them at the same histories. What waits for the recycler is what the script says, item by item
 pub record Between (s : Shared) (round : ℕ) (roles : List Role) (e : Recycler) : Type 0 where
   pub laid : IsLaidOut s
   pub within : round ≤ rounds (setup_of s)
   pub count : length roles ≡ s.layout.workers + 2
   pub t : Histories
   pub at : IsRoundEnd (setup_of s) t round
+  pub cuts : HasCuts (setup_of s) t round at.acts
   pub rests : (k : ℕ) (d : Role) → k < length roles → Rests s t k (at.acts k) (slice_index_or roles k d)
   pub idle : IsIdle s t e
   pub puts : PutsAreDue t.pool

@@ -1,2 +1,5 @@
 pub mod Playing
+pub mod Cuts
+pub mod Rising
 pub mod Between
+pub mod Later

@@ -5,8 +5,13 @@ ghost use Rattle.role_steps.specs.Roles.{setup_of};
 ghost use Rattle.role_steps.specs.declared.roles.Recycler.{Recycler};
 ghost use Rattle.role_steps.specs.declared.roles.Shared.{Shared};
 ghost use Rattle.round_laws.specs.Between.{Between};
+ghost use Rattle.round_laws.specs.Cuts.{IsInRounds};
+ghost use Rattle.round_laws.specs.Later.{ArePutLater};
 ghost use Rattle.round_laws.specs.Playing.{AllPlayed, AreHandedOn, MayPlay};
-ghost use Rattle.run_laws.specs.Setting.{IsLayout};
+ghost use Rattle.round_laws.specs.Rising.{WentByRounds};
+ghost use Rattle.run_laws.specs.Setting.{IsLayout, IsSetup};
+ghost use Rattle.run_rules.specs.Histories.{Histories};
+ghost use Rattle.run_rules.specs.Lawful.{AreScripted};
 ghost use Rattle.run_rules.specs.Setup.{Setup, rounds};
 ghost use Rattle.run_start.specs.Starting.{IsStarted};
 ghost use Rattle.std.specs.Prelude.{◌≡◌, ℕ, suc, ◌*◌, ◌^◌, ◌<◌, ◌≤◌, List, length, slice_index_or};
@@ -26,4 +31,16 @@ pub fn roles_may_play()
 pub fn rounds_go_on()
     ensures { (s : Shared) (round : ℕ) (begun played met handed : List Role) (e f : Recycler) → Between s round begun e → round < rounds (setup_of s)
         → AllPlayed s round begun played → MetAll s played met e f → AreHandedOn met handed → Between s (suc round) handed f }
+{}
+
+/// The histories of a run with the cuts of all its rounds: in each bucket no entry is of an earlier round than an entry before it, and each stands
+/// behind the sweeps of all rounds before its own. So whatever was done there in a round, its sweep too, stands before each look of the next one.
+pub fn runs_go_by_rounds()
+    ensures { (w : Setup) (t : Histories) (l : AreScripted w t) → IsSetup w → IsInRounds w t l.acts → WentByRounds w t l }
+{}
+
+/// What the recycler gives back after a round had left its bucket in that round; what the end role gives back, in the last round, or by a drain of
+/// the end role itself.
+pub fn runs_leave_before()
+    ensures { (w : Setup) (t : Histories) (l : AreScripted w t) → IsSetup w → (i : IsInRounds w t l.acts) → ArePutLater w t l i }
 {}

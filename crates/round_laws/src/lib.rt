@@ -3,4 +3,4 @@
 
 mod laws;
 
-pub use laws::{roles_may_play, rounds_begin, rounds_go_on};
+pub use laws::{roles_may_play, rounds_begin, rounds_go_on, runs_go_by_rounds, runs_leave_before};

@@ -9,21 +9,26 @@ use Rattle.std.specs.List.Sorted.{IsNonDecreasingBy, IsPermutation}
 use Rattle.end_laws.specs.Ended.{IsRunEnd, all_finished}
 use Rattle.flow_object.specs.declared.outcome.FlowLine.{FlowLine}
 use Rattle.lock_rows.specs.Rows.{Pairs}
+use Rattle.bucket_laws.proofs.Naming.{named}
 use Rattle.record_laws.proofs.Gathering.{whole}
 use Rattle.record_laws.specs.Telling.{HaveTold, told_below}
 use Rattle.role_steps.specs.Items.{IsLine, LinesOf}
+use Rattle.round_laws.proofs.Later.{put_later}
+use Rattle.round_laws.proofs.Rising.{went_by_rounds}
+use Rattle.run_laws.proofs.Drained.{drained}
 use Rattle.run_laws.proofs.Ending.{has_cause}
 use Rattle.run_laws.proofs.Giving.{put_back, turned_back}
 use Rattle.run_laws.proofs.Placing.{counted_once, cut_whole}
 use Rattle.run_laws.proofs.Refusing.{refused_for}
 use Rattle.run_laws.proofs.Uses.{returned}
 use Rattle.run_laws.specs.Setting.{IsSetup}
+use Rattle.run_round.proofs.Leaving.{closes_own, leaves_once}
 use Rattle.run_round.specs.Accounts.{AccountsFor, AccountsOver, AreRecords}
 use Rattle.run_rules.specs.Acts.{Act}
-use Rattle.run_rules.specs.Histories.{Histories, histories_of}
+use Rattle.run_rules.specs.Histories.{Histories, bucket_at, histories_of}
 use Rattle.run_rules.specs.Lawful.{AreLawful}
 use Rattle.run_rules.specs.Serving.{finished}
-use Rattle.run_rules.specs.Setup.{Setup, roles}
+use Rattle.run_rules.specs.Setup.{Setup, fixed_at, roles}
 use Rattle.suri_base.specs.Trail.{Trailed}
 
 -- pairs with two lists behind each other, in two parts
@@ -95,12 +100,18 @@ accounts_over w t d l = record {
   returned = returned w t l;
   put = λ role step run past a. put_back w t l.scripted role step run past a;
   turned = λ role step run f past a. turned_back w t l.scripted role step run f past a;
+  leaves = λ b h. leaves_once (fixed_at w b) d.capture (bucket_at b t.buckets) (l.scripted.legal.buckets b h) (drained w t l.scripted b h);
+  named = λ b h. named (fixed_at w b) (bucket_at b t.buckets) (l.scripted.legal.buckets b h);
+  closed = λ b h. closes_own (fixed_at w b) d.capture (bucket_at b t.buckets) (l.scripted.legal.buckets b h);
 }
 
 pub accounted : (w : Setup) (t : Trailed) (lines sorted : List FlowLine) → IsSetup w → t.layout ≡ w.layout → IsRunEnd w (histories_of t) lines → IsPermutation lines sorted
     → IsNonDecreasingBy (λ l. l.sums.first_no) sorted → AccountsFor w t sorted
-accounted w t lines sorted d laid e p rising = record {
-  lawful = record { layout = laid; histories = e.lawful };
-  records = records_of_run w (histories_of t) lines sorted d e p rising;
-  accounts = accounts_over w (histories_of t) d e.lawful;
-}
+accounted w t lines sorted d laid e p rising =
+    let by_rounds = went_by_rounds w d (histories_of t) e.lawful.scripted e.rounds in record {
+      lawful = record { layout = laid; histories = e.lawful };
+      rounds = by_rounds;
+      later = put_later w d (histories_of t) e.lawful.scripted by_rounds.in_rounds;
+      records = records_of_run w (histories_of t) lines sorted d e p rising;
+      accounts = accounts_over w (histories_of t) d e.lawful;
+    }

@@ -56,11 +56,6 @@ last_handed queue old was new r is e kind passes lines failed hand waiting =
       waiting = waiting ∙ ap (λ (k : Kind). waits_for k queue) (sym was_kind);
     }
 
-pub is_recycler : (p : Part) → kind_of p ≡ recycles → (r : Recycler) × (p ≡ Recycle r)
-is_recycler (Work k) h = cc
-is_recycler (Manage m) h = cc
-is_recycler (Recycle r) h = (r, refl)
-
 pub played_kind : (s : Shared) (round : ℕ) (p q : Part) → Played s round p q → kind_of q ≡ kind_of p
 played_kind s round (Work a) (Work b) h = refl
 played_kind s round (Work a) (Manage b) h = absurd h

@@ -4,4 +4,5 @@ pub mod Handing
 pub mod Rounding
 pub mod Parting
 pub mod Closing
+pub mod Leaving
 pub mod Accounting

@@ -1,13 +1,17 @@
 -- What a run says of its capture: each packet is accounted for, and why.
-use Rattle.std.specs.Prelude.{◌≡◌, ℕ, ◌<◌, true, List, length, map, reverse, Some}
+use Rattle.std.specs.Prelude.{◌≡◌, ℕ, ◌<◌, Bool, true, List, length, map, reverse, Some}
 use Rattle.bucket_laws.specs.Keys.{IsCut, pieces}
+use Rattle.bucket_laws.specs.Naming.{IsMember, NamesHere}
 use Rattle.bucket_laws.specs.Places.{At, History, In}
-use Rattle.bucket_rules.specs.Row.{has, made}
+use Rattle.bucket_rules.specs.Row.{has, made, row}
 use Rattle.flow_object.specs.declared.outcome.FlowLine.{FlowLine}
+use Rattle.round_laws.specs.Later.{ArePutLater}
+use Rattle.round_laws.specs.Rising.{WentByRounds}
 use Rattle.run_laws.specs.Causes.{IsRefusedFor}
 use Rattle.run_laws.specs.Ends.{HasCause}
 use Rattle.run_laws.specs.Placing.{IsCountedOnce}
 use Rattle.run_laws.specs.Returning.{AreReturned, IsGivenBack}
+use Rattle.run_round.specs.Leaving.{LeavesOnce}
 use Rattle.run_rules.specs.Histories.{Histories, bucket_at, histories_of}
 use Rattle.run_rules.specs.Lawful.{AreLawful, IsLawful}
 use Rattle.run_rules.specs.Runs.{line_in, runs_in}
@@ -17,7 +21,9 @@ use Rattle.suri_base.specs.Dealing.{bucket_of}
 use Rattle.suri_base.specs.History.{entry}
 use Rattle.suri_base.specs.Keys.{key_list}
 use Rattle.suri_base.specs.Trail.{Trailed}
-use Rattle.suri_base.specs.declared.entry.BucketNote.TheVariants.{Refused}
+use Rattle.suri_base.specs.declared.app.App.{App}
+use Rattle.suri_base.specs.declared.entry.BucketNote.{BucketNote}
+use Rattle.suri_base.specs.declared.entry.BucketNote.TheVariants.{Closed, Refused}
 use Rattle.suri_base.specs.declared.entry.Entry.{Entry}
 use Rattle.suri_base.specs.declared.entry.PoolNote.{PoolNote}
 use Rattle.suri_base.specs.declared.entry.PoolNote.TheVariants.{Put, Turn}
@@ -49,9 +55,19 @@ pub record AccountsOver (w : Setup) (t : Histories) : Type 0 where
   -- an object was given back by a role that had let its run go, or by one of the two that finish what others let go
   pub put : (role step run : ℕ) (past : List (Entry PoolNote)) → At (entry role step (Put run)) past t.pool → IsGivenBack w t role step run
   pub turned : (role step run f : ℕ) (past : List (Entry PoolNote)) → At (entry role step (Turn run f)) past t.pool → IsGivenBack w t role step run
+  -- each run leaves its bucket once, when nothing uses it any more, and is let alone from then on
+  pub leaves : (b : ℕ) → b < length t.buckets → (a : ℕ) → has (made (bucket_at b t.buckets)) a ≡ true → LeavesOnce (fixed_at w b) (bucket_at b t.buckets) a
+  -- an entry names only a run that is in its bucket then
+  pub named : (b : ℕ) → b < length t.buckets → (e : Entry BucketNote) (past : History) → At e past (bucket_at b t.buckets) → NamesHere (fixed_at w b) past e.note
+  -- a close names the run in which its own packet is a member
+  pub closed : (b : ℕ) → b < length t.buckets → (role step f : ℕ) (app : App) (run freed : ℕ) (ended : Bool) (past : History)
+      → At (entry role step (Closed f app run freed ended)) past (bucket_at b t.buckets) → IsMember (fixed_at w b) f (row (fixed_at w b) run (bucket_at b t.buckets))
 
 -- the trail and the records of a run, whatever the order in which the roles had the locks
 pub record AccountsFor (w : Setup) (t : Trailed) (lines : List FlowLine) : Type 0 where
   pub lawful : IsLawful w t
+  pub rounds : WentByRounds w (histories_of t) lawful.histories.scripted
+  -- what the recycler and the end role give back had left in an earlier round, or the end role drained it
+  pub later : ArePutLater w (histories_of t) lawful.histories.scripted rounds.in_rounds
   pub records : AreRecords w (histories_of t) lines
   pub accounts : AccountsOver w (histories_of t)

@@ -1,3 +1,4 @@
 pub mod Handing
 pub mod Closing
 pub mod Accounts
+pub mod Leaving

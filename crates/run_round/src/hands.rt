@@ -67,8 +67,9 @@ pub fn hand_on<'c>(alloc: Global, roles: &mut [Role<'c>]) -> Result<(), NoMemory
 {
     let queue = gather(alloc, roles)?;
     let last = roles.len() - 1;
-    if let Part::Recycle(recycler) = &mut roles[last].part {
-        recycler.waiting = queue;
+    match &mut roles[last].part {
+        Part::Recycle(recycler) => recycler.waiting = queue,
+        _ => unreachable!(),
     }
     Ok(())
 }
