@@ -3,6 +3,7 @@ pub mod Chaining
 pub mod Decoded
 pub mod Indexed
 pub mod Laws
+pub mod Making
 pub mod Nexting
 pub mod Nexts
 pub mod Parts

@@ -1,5 +1,5 @@
 -- Parts of the list of what becomes of each frame.
-use Rattle.std.proofs.Common.{◌≡◌, ℕ, zero, suc, ◌+◌, ◌-◌, ◌*◌, ◌<◌, ◌≤◌, List, [], ◌∷◌, ◌++◌, refl, ap, sym, ◌∙◌, take, drop, length, map, append-nil, get_or, subst, length-take, length-drop, arith, ◌⊎◌, inl, inr}
+use Rattle.std.proofs.Common.{◌≡◌, ℕ, zero, suc, ◌+◌, ◌-◌, ◌<◌, ◌≤◌, List, [], ◌∷◌, ◌++◌, refl, ap, sym, ◌∙◌, take, drop, length, map, append-nil, get_or, subst, length-take, length-drop, arith, ◌⊎◌, inl, inr}
 use Rattle.std.proofs.lemmas.Bool.{cases_lt}
 use Rattle.std.proofs.lemmas.List.{drop_all, get_or-drop, get_or_default, map_more, take_all}
 use Rattle.std.specs.Prelude.{OnOk, Result, Ok, Err}
@@ -126,14 +126,3 @@ whole_back n now old was is =
 pub ok_then : {A E : Type 0} {P Q : Type 0} (r : Result A E) → (P → Q) → OnOk r P → OnOk r Q
 ok_then (Ok a) f p = f p
 ok_then (Err e) f p = tt
-
--- one piece more is read
-pub read_further : (bytes size i : ℕ) (frames : List Frame) (clocks : List ℕ) (seen : List Seen) → AreRead bytes 0 (i * size) frames clocks seen
-    → AreRead bytes (i * size) (i * size + size) frames clocks seen → AreRead bytes 0 ((i + 1) * size) frames clocks seen
-read_further bytes size i frames clocks seen so more k f c s after before within = by (cases_lt k (i * size))
-  where
-    by : (k < i * size) ⊎ (i * size ≤ k) → IsRead bytes (get_or frames k f) (get_or clocks k c) (get_or seen k s)
-    by (inl h) = so k f c s after h within
-    by (inr h) =
-        let e : (i + 1) * size ≡ i * size + size = grind arith in
-        more k f c s h (omega (arith, before, e)) within

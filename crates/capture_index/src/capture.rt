@@ -10,9 +10,10 @@ use crate::links::link;
 use crate::pieces::decode_pieces;
 use pcap_read::Frames;
 use std::alloc::{AllocError, Global};
+use std::thread::Threads;
 use suri_base::{Capture, Frame, NoMemory, Slots};
 
-// How many frames a piece has.
+// How many frames a piece has: so many that its decoding is worth the start of a thread, and the most frames of a file make 64 pieces.
 const PIECE: usize = 65_536;
 
 // The clock at each frame: the greatest time of the frames up to it.
@@ -30,8 +31,14 @@ fn clocks_of(alloc: Global, frames: &[Frame]) -> Result<Vec<u64>, AllocError>
 
 /// The capture of a file with these bytes, whose frames lie in them. After an `Err` both are given up.
 ///
-/// The clock at a frame is the greatest time of the frames up to it, and each packet names the next one of its key.
-pub fn index(alloc: Global, bytes: Vec<u8>, file: Frames) -> Result<Capture, NoMemory>
+/// The clock at a frame is the greatest time of the frames up to it, and each packet names the next one of its key. Frames are decoded in
+/// several threads, where they can be started; the answer is the same without them.
+pub fn index<R: Threads + Sync>(
+    rt: &R,
+    alloc: Global,
+    bytes: Vec<u8>,
+    file: Frames,
+) -> Result<Capture, NoMemory>
     requires link { IsLink file.link }
     requires inside { AreNumbered (length bytes.items) 0 file.frames }
     requires small { length bytes.items ≤ 2 ^ 30 }
@@ -44,7 +51,7 @@ pub fn index(alloc: Global, bytes: Vec<u8>, file: Frames) -> Result<Capture, NoM
     ensures order { IfOk result (λ c. AreInOrder 0 (packets_in c.seen)) }
 {
     let clocks = clocks_of(alloc, &file.list)?;
-    let pieces = decode_pieces(alloc, file.link, &bytes, &file.list, &clocks, PIECE)?;
+    let pieces = decode_pieces(rt, alloc, file.link, &bytes, &file.list, &clocks, PIECE)?;
     let slots = Slots::of(link(alloc, pieces, PIECE)?, PIECE);
     Ok(Capture::make(bytes, file.list, clocks, slots, file.cut_bytes))
 }

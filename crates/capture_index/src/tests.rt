@@ -68,7 +68,7 @@ fn links_packets_of_a_key(rt: HostRuntime) -> Result<(), Fail> {
     let bytes = file_of(alloc, &[1, 2, 1])?;
     assert!(rt; bytes.len() < 1000);
     let file = frames(alloc, &bytes)?;
-    let capture = index(alloc, bytes, file)?;
+    let capture = index(&rt, alloc, bytes, file)?;
     assert_eq!(rt; nexts(alloc, &capture)?.as_slice(), [3, 0, 0].as_slice());
     Ok(())
 }
@@ -79,7 +79,7 @@ fn links_beside_counted_frames(rt: HostRuntime) -> Result<(), Fail> {
     let bytes = file_of(alloc, &SENDERS)?;
     assert!(rt; bytes.len() < 1000);
     let file = frames(alloc, &bytes)?;
-    let capture = index(alloc, bytes, file)?;
+    let capture = index(&rt, alloc, bytes, file)?;
     assert_eq!(rt;
         nexts(alloc, &capture)?.as_slice(),
         [3, 7, 5, 0, 6, 0, 9, 0, 0].as_slice()
@@ -95,7 +95,7 @@ fn keeps_the_greatest_time(rt: HostRuntime) -> Result<(), Fail> {
     push_record(&mut bytes, 2, 8)?;
     assert!(rt; bytes.len() < 1000);
     let file = frames(alloc, &bytes)?;
-    let capture = index(alloc, bytes, file)?;
+    let capture = index(&rt, alloc, bytes, file)?;
     assert_eq!(rt; capture.count(), 2);
     assert_eq!(rt; capture.clock(2), 9_000_000_000);
     Ok(())
@@ -106,7 +106,7 @@ fn has_no_round_without_a_frame(rt: HostRuntime) -> Result<(), Fail> {
     let alloc = rt.alloc();
     let bytes = Vec::from_slice(alloc, &HEADER)?;
     let file = frames(alloc, &bytes)?;
-    let capture = index(alloc, bytes, file)?;
+    let capture = index(&rt, alloc, bytes, file)?;
     assert_eq!(rt; rounds(&capture, 4), 0);
     Ok(())
 }
@@ -131,7 +131,7 @@ fn deals_frames_to_workers(rt: HostRuntime) -> Result<(), Fail> {
     let bytes = file_of(alloc, &SENDERS)?;
     assert!(rt; bytes.len() < 1000);
     let file = frames(alloc, &bytes)?;
-    let capture = index(alloc, bytes, file)?;
+    let capture = index(&rt, alloc, bytes, file)?;
     let all = layout(3, 9);
     let first = batches_in(&rt, alloc, &capture, &all, 0, 0)?;
     assert_eq!(rt; first.len(), 2);
@@ -150,7 +150,7 @@ fn deals_frames_round_by_round(rt: HostRuntime) -> Result<(), Fail> {
     let bytes = file_of(alloc, &SENDERS)?;
     assert!(rt; bytes.len() < 1000);
     let file = frames(alloc, &bytes)?;
-    let capture = index(alloc, bytes, file)?;
+    let capture = index(&rt, alloc, bytes, file)?;
     assert_eq!(rt; rounds(&capture, 4), 3);
     let four = layout(2, 4);
     let early = batches_in(&rt, alloc, &capture, &four, 1, 1)?;
@@ -173,7 +173,7 @@ fn links_across_pieces(rt: HostRuntime) -> Result<(), Fail> {
     }
     assert!(rt; bytes.len() < 10_000_000);
     let file = frames(alloc, &bytes)?;
-    let capture = index(alloc, bytes, file)?;
+    let capture = index(&rt, alloc, bytes, file)?;
     let nexts = nexts(alloc, &capture)?;
     assert_eq!(rt; nexts.len(), 140_000);
     // Frames 1, 4, .. are counted; each other frame names the third one behind it.
@@ -192,7 +192,7 @@ fn hands_on_how_keys_are_dealt(rt: HostRuntime) -> Result<(), Fail> {
     let bytes = file_of(alloc, &[1])?;
     assert!(rt; bytes.len() < 1000);
     let file = frames(alloc, &bytes)?;
-    let capture = index(alloc, bytes, file)?;
+    let capture = index(&rt, alloc, bytes, file)?;
     assert_eq!(rt; capture.count(), 1);
     let dealt = match capture.get(1) {
         Seen::Bears(facts) => (worker_of(&facts.key, 3), bucket_of(&facts.key, 5)),
@@ -230,7 +230,7 @@ fn links_long_addresses_beside_short_ones(rt: HostRuntime) -> Result<(), Fail> {
     }
     assert!(rt; bytes.len() < 1000);
     let file = frames(alloc, &bytes)?;
-    let capture = index(alloc, bytes, file)?;
+    let capture = index(&rt, alloc, bytes, file)?;
     assert_eq!(rt;
         nexts(alloc, &capture)?.as_slice(),
         [4, 5, 6, 0, 0, 0].as_slice()

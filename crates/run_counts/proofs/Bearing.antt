@@ -14,7 +14,6 @@ use Rattle.bucket_rules.specs.Packets.{bearing, facts_of_seen}
 use Rattle.run_counts.proofs.Adding.{sum_over}
 use Rattle.run_counts.proofs.Answered.{count_down, count_filter, count_left_out}
 use Rattle.run_counts.proofs.Naming.{weight_at, weight_of}
-use Rattle.run_counts.specs.Frames.{len_in}
 use Rattle.run_laws.proofs.Counting.{count_in}
 use Rattle.suri_base.specs.Capture.{Captured, counter_in, facts_in, packets_in}
 use Rattle.suri_base.specs.declared.counter.Counter.{Counter}
@@ -89,25 +88,3 @@ module _ (g : Facts → ℕ) where
 
   pub over_bearers : (c : Captured) → sum_over (weight_of g c) (bearers c) ≡ sum_by g (packets_in c.seen)
   over_bearers c = many c (length c.seen) (omega arith) ∙ ap (λ (l : List Seen). sum_by g (packets_in l)) (take-length c.seen)
-
--- the captured bytes of packets, with the frame at a place
-
-own_len : (s : Seen) → weight_at (λ f. f.len) (facts_in s) ≡ len_in s
-own_len (Bears f) = refl
-own_len (Counted d) = refl
-
-pub next_bytes : (seen : List Seen) (i total more : ℕ) → i < length seen → total ≡ sum_by (λ f. f.len) (packets_in (take i seen))
-    → ((s : Seen) → slice_get seen (i + 1 - 1) ≡ Some s → more ≡ len_in s) → total + more ≡ sum_by (λ f. f.len) (packets_in (take (i + 1) seen))
-next_bytes seen i total more lt is made =
-    let s = get_or seen i (Counted LinkSmall) in
-    let here : i ≡ i + 1 - 1 = omega arith in
-    let own = made s (subst (λ n. slice_get seen n ≡ Some s) here (slice_get-get_or seen i (Counted LinkSmall) lt)) in
-    let front = ap (λ (l : List Seen). sum_by (λ f. f.len) (packets_in l)) (take_more seen i (Counted LinkSmall) lt) in
-    omega (arith, is, own, front, packets_joined (λ f. f.len) (take i seen) (s ∷ []), one_packet (λ f. f.len) s, own_len s)
-
-pub len_counted : (s : Seen) (c : Counter) → Some c ≡ counter_in s → 0 ≡ len_in s
-len_counted (Bears f) c h = cc
-len_counted (Counted d) c h = refl
-
-pub len_borne : (s : Seen) (f : Facts) (n : ℕ) → Some (Bears f) ≡ Some s → n ≡ f.len → n ≡ len_in s
-len_borne s f n h e = let q : s ≡ Bears f = cc in e ∙ ap len_in (sym q)

@@ -53,8 +53,3 @@ with_one_under OtherProto c = record c { other_proto = c.other_proto + 1 }
 abbrev pub with_frame : Seen → Counts → Counts
 with_frame (Bears f) c = c
 with_frame (Counted d) c = with_one_under d c
-
--- the captured bytes of a frame that bears a flow; 0 of another
-abbrev pub len_in : Seen → ℕ
-len_in (Bears f) = f.len
-len_in (Counted d) = 0

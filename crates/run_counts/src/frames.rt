@@ -1,7 +1,6 @@
 //! What is counted of the frames of a capture.
-ghost use Rattle.run_counts.specs.Frames.{all_counted, counts_of, len_in, with_frame};
+ghost use Rattle.run_counts.specs.Frames.{all_counted, counts_of, with_frame};
 ghost use Rattle.std.specs.Prelude.{◌≡◌, ◌-◌, ◌^◌, ◌<◌, ◌≤◌, Some, length, slice_get, sum_by};
-ghost use Rattle.suri_base.specs.Capture.{packets_in};
 ghost use Rattle.suri_base.specs.declared.seen.Seen.{Seen};
 
 use crate::counts::Counts;
@@ -40,29 +39,6 @@ pub fn capture_bytes(capture: &Capture) -> u64
     for index in 0..count {
         let frame = capture.frame(index + 1);
         bytes += u64::from(frame.len);
-    }
-    bytes
-}
-
-// The captured bytes of the frame of this number; 0 where it bears no flow.
-fn packet_len(capture: &Capture, no: u32) -> u32
-    requires { (1 ≤ no) × (no ≤ length capture.now.frames) }
-    ensures { (seen : Seen) → slice_get capture.now.seen (no - 1) ≡ Some seen → result ≡ len_in seen }
-{
-    match capture.counter(no) {
-        Some(_) => 0,
-        None => capture.len(no),
-    }
-}
-
-/// The captured bytes of all frames that bear a flow, link headers included. The records of a run have no more.
-pub fn packet_bytes(capture: &Capture) -> u64
-    ensures { result ≡ sum_by (λ f. f.len) (packets_in capture.now.seen) }
-{
-    let mut bytes: u64 = 0;
-    let count = capture.count();
-    for index in 0..count {
-        bytes += u64::from(packet_len(capture, index + 1));
     }
     bytes
 }

@@ -11,6 +11,5 @@ mod stats;
 #[cfg(test)]
 mod tests;
 
-pub use frames::packet_bytes;
 pub use laws::counts_add_up;
 pub use stats::stats_of;

@@ -7,6 +7,8 @@ mod play;
 mod rounds;
 mod run;
 #[cfg(test)]
+mod test_gate;
+#[cfg(test)]
 mod test_notes;
 #[cfg(test)]
 mod test_runs;

@@ -1,6 +1,9 @@
 //! Captures, and runs over them in which the roles take turns, for the tests.
 ghost use Rattle.run_laws.specs.Setting.{IsLayout};
-ghost use Rattle.std.specs.Prelude.{◌≡◌, true};
+ghost use Rattle.run_round.specs.Accounts.{setup_for};
+ghost use Rattle.run_rules.specs.Setup.{rounds};
+ghost use Rattle.std.specs.Prelude.{◌≡◌, ◌*◌, ◌^◌, ◌≤◌, true, IfOk};
+ghost use Rattle.suri_base.specs.Capture.{IsCapture};
 
 use crate::run::run_with;
 use capture_index::{index, rounds};
@@ -11,7 +14,7 @@ use std::process::Abort;
 use std::sync::Wait;
 use std::test::Fail;
 use std::thread::Threads;
-use suri_base::{BucketNote, Entry, Layout, PoolNote, Reason, SegNote, Trail};
+use suri_base::{BucketNote, Capture, Entry, Layout, PoolNote, Reason, SegNote, Trail};
 use suri_outside::OpenGate;
 
 // The header of a little-endian Ethernet capture with times in microseconds.
@@ -28,24 +31,31 @@ const UDP: u8 = 17;
 
 const TCP: u8 = 6;
 
-/// A packet: UDP without payload from this host, port 1000, to the next host, port 2000; or TCP from 128.232.110.120, port 34855, to
+/// A packet: UDP without payload from this host, port 1000, to that one, port 2000; or TCP from 128.232.110.120, port 34855, to
 /// 66.35.250.204, port 80.
 #[derive(Clone, Copy)]
 pub(crate) struct Packet<'a> {
     seconds: u32,
     proto: u8,
     host: u8,
+    peer: u8,
     flags: u8,
     seq: u32,
     payload: &'a [u8],
 }
 
-/// A UDP packet, so many seconds behind the first.
+/// A UDP packet, so many seconds behind the first, to the next host.
 pub(crate) fn udp(seconds: u32, host: u8) -> Packet<'static> {
+    udp_to(seconds, host, host.wrapping_add(1))
+}
+
+/// A UDP packet, so many seconds behind the first, from this host to that.
+pub(crate) fn udp_to(seconds: u32, host: u8, peer: u8) -> Packet<'static> {
     Packet {
         seconds,
         proto: UDP,
         host,
+        peer,
         flags: 0,
         seq: 0,
         payload: b"",
@@ -58,6 +68,7 @@ pub(crate) fn tcp(flags: u8, seq: u32, payload: &[u8]) -> Packet<'_> {
         seconds: 0,
         proto: TCP,
         host: 0,
+        peer: 0,
         flags,
         seq,
         payload,
@@ -67,7 +78,7 @@ pub(crate) fn tcp(flags: u8, seq: u32, payload: &[u8]) -> Packet<'_> {
 // Puts addresses and the transport header behind a frame.
 fn push_transport(frame: &mut Vec<u8>, packet: &Packet<'_>) -> Result<(), Fail> {
     if packet.proto == UDP {
-        frame.extend_from_slice(&[10, 0, 0, packet.host, 10, 0, 0, packet.host.wrapping_add(1)])?;
+        frame.extend_from_slice(&[10, 0, 0, packet.host, 10, 0, 0, packet.peer])?;
         frame.extend_from_slice(&[0x03, 0xe8, 0x07, 0xd0, 0, 8, 0, 0])?;
     } else {
         frame.extend_from_slice(&[128, 232, 110, 120, 66, 35, 250, 204])?;
@@ -134,6 +145,32 @@ fn is_layout(layout: &Layout) -> bool
         && layout.depth <= 1_073_741_824
 }
 
+/// Whether a capture may be run with this layout.
+pub(crate) fn may_run(capture: &Capture, layout: &Layout) -> bool
+    ensures layout { result ≡ true → IsLayout layout.now }
+    ensures few { result ≡ true → rounds (setup_for capture.now layout.now) * layout.now.rows ≤ 2 ^ 24 }
+{
+    is_layout(layout)
+        && u64::from(rounds(capture, layout.round)) * u64::from(layout.rows) <= 16_777_216
+}
+
+/// What is known of a capture from its file.
+pub(crate) fn index_of<R: Threads + Sync>(
+    rt: &R,
+    alloc: Global,
+    bytes: Vec<u8>,
+) -> Result<Capture, Fail>
+    ensures { IfOk result (λ c. IsCapture c) }
+{
+    if bytes.len() > 1_073_741_824 {
+        return Err(Fail::new("a capture beyond the limits"));
+    }
+    let Ok(file) = frames(alloc, &bytes) else {
+        return Err(Fail::new("no capture"));
+    };
+    Ok(index(rt, alloc, bytes, file)?)
+}
+
 /// A run over a capture file in so many threads.
 pub(crate) fn run_in<R: Threads + Wait + Sync>(
     rt: &R,
@@ -142,16 +179,9 @@ pub(crate) fn run_in<R: Threads + Wait + Sync>(
     layout: Layout,
     threads: usize,
 ) -> Result<(Vec<FlowLine>, Trail), Fail> {
-    if bytes.len() > 1_073_741_824 || threads == 0 || !is_layout(&layout) {
-        return Err(Fail::new("a capture or a layout beyond the limits"));
-    }
-    let Ok(file) = frames(alloc, &bytes) else {
-        return Err(Fail::new("a capture or a layout beyond the limits"));
-    };
-    let capture = index(alloc, bytes, file)?;
-    let count = u64::from(rounds(&capture, layout.round)) * u64::from(layout.rows);
-    if count > 16_777_216 {
-        return Err(Fail::new("a capture or a layout beyond the limits"));
+    let capture = index_of(rt, alloc, bytes)?;
+    if threads == 0 || !may_run(&capture, &layout) {
+        return Err(Fail::new("a layout beyond the limits"));
     }
     Ok(run_with(rt, alloc, &capture, layout, 2, &OpenGate, threads)?)
 }

@@ -1,6 +1,7 @@
+pub mod Accounted
+pub mod Bounds
 pub mod Complete
-pub mod Counting
+pub mod Naming
 pub mod OneChoice
 pub mod Outputs
-pub mod Reported
 pub mod Sending

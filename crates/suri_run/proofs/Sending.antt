@@ -1,29 +1,37 @@
--- The lines of flows, one after another.
-use Rattle.std.proofs.Common.{◌≡◌, ℕ, ◌+◌, ◌<◌, List, ◌++◌, length, drop, get_or, sym, ap, ◌∙◌, subst, append_assoc, drop-cons, add-one, Result, Ok, Err, OnErr}
+-- Texts that are sent one after another.
+use Rattle.std.proofs.Common.{◌≡◌, ℕ, suc, ◌+◌, ◌<◌, List, ◌++◌, length, drop, get_or, flat_map, sym, ap, ◌∙◌, subst, append_assoc, drop-cons, add-one, Result, Ok, Err, OnErr, All}
 use Rattle.std.specs.declared.option.Option.{Option}
+use Rattle.std.proofs.Math.Seq.{drop-append_seam}
+use Rattle.std.proofs.lemmas.Grind.{flat_map-append}
+use Rattle.std.proofs.lemmas.List.Elements.{All-drop, All-same}
 use Rattle.suri_outside.specs.Bytes.{TakesAllBut, TakesFront}
 use Rattle.suri_outside.proofs.Fronts.{front_of_more, sent_front_of_more}
-use Rattle.flow_object.specs.declared.outcome.FlowLine.{FlowLine}
-use Rattle.suri_opts.specs.declared.types.Options.{Options}
-use Rattle.suri_run.specs.Report.{lines_of, record_lines}
 
--- the lines from a record on are its own and those behind it
-line_here : (o : Options) (lines : List FlowLine) (i : ℕ) (d : FlowLine) → i < length lines → lines_of o (drop i lines) ≡ record_lines o (get_or lines i d) ++ lines_of o (drop (i + 1) lines)
-line_here o lines i d lt =
-    ap (λ (l : List FlowLine). lines_of o l) (drop-cons lines i d lt) ∙ ap (λ n. record_lines o (get_or lines i d) ++ lines_of o (drop n lines)) (sym (add-one i))
+-- the text of the items from one on is its own and that of those behind it
+pub item_first : {X : Type 0} (f : X → List ℕ) (xs : List X) (i : ℕ) (x : X) → i < length xs → x ≡ get_or xs i x → flat_map f (drop i xs) ≡ f x ++ flat_map f (drop (i + 1) xs)
+item_first f xs i x lt is =
+    ap (flat_map f) (drop-cons xs i x lt) ∙ ap (λ y. f y ++ flat_map f (drop (suc i) xs)) (sym is) ∙ ap (λ n. f x ++ flat_map f (drop n xs)) (sym (add-one i))
 
--- the lines of one record more, and what is left
-pub next_line : (o : Options) (lines : List FlowLine) (i : ℕ) (d : FlowLine) (text all : List ℕ) → i < length lines → text ++ lines_of o (drop i lines) ≡ all
-    → (text ++ record_lines o (get_or lines i d)) ++ lines_of o (drop (i + 1) lines) ≡ all
-next_line o lines i d text all lt rest =
-    append_assoc text (record_lines o (get_or lines i d)) (lines_of o (drop (i + 1) lines)) ∙ ap (λ l. text ++ l) (sym (line_here o lines i d lt)) ∙ rest
+-- the text of what is left is that of a piece and of what is left behind it
+pub piece_first : {X : Type 0} (f : X → List ℕ) (left piece behind : List X) → left ≡ piece ++ behind → flat_map f left ≡ flat_map f piece ++ flat_map f behind
+piece_first f left piece behind parts = ap (flat_map f) parts ∙ flat_map-append f piece behind
 
--- where the line could not be sent, a front of all lines was taken
-pub front_of_lines : (a b c : Option (List ℕ)) (waiting text : List ℕ) (o : Options) (lines : List FlowLine) (i : ℕ) (d : FlowLine) (all : List ℕ) → i < length lines
-    → TakesAllBut a b waiting text → text ++ lines_of o (drop i lines) ≡ all → TakesFront b c (waiting ++ record_lines o (get_or lines i d)) → TakesFront a c all
-front_of_lines a b c waiting text o lines i d all lt sent rest front =
-    subst (TakesFront a c) (next_line o lines i d text all lt rest)
-    (front_of_more a c (text ++ record_lines o (get_or lines i d)) (lines_of o (drop (i + 1) lines)) (sent_front_of_more a b c waiting text (record_lines o (get_or lines i d)) sent front))
+-- what holds of all that is left holds of what is left behind a piece
+pub all_behind : {X : Type 0} (P : X → Type 0) (left piece behind : List X) → left ≡ piece ++ behind → All P left → All P behind
+all_behind P left piece behind parts h =
+    All-same P behind (drop (length piece) (piece ++ behind)) (sym (drop-append_seam piece behind))
+    (All-drop P (length piece) (piece ++ behind) (All-same P (piece ++ behind) left (sym parts) h))
+
+-- a text more, and what is left
+pub next_text : (text piece behind left all : List ℕ) → left ≡ piece ++ behind → text ++ left ≡ all → (text ++ piece) ++ behind ≡ all
+next_text text piece behind left all parts whole = append_assoc text piece behind ∙ ap (λ (t : List ℕ). text ++ t) (sym parts) ∙ whole
+
+-- where a text could not be sent, a front of all was taken
+pub front_of_all : (a b c : Option (List ℕ)) (waiting text piece behind left all : List ℕ) → TakesAllBut a b waiting text → left ≡ piece ++ behind → text ++ left ≡ all
+    → TakesFront b c (waiting ++ piece) → TakesFront a c all
+front_of_all a b c waiting text piece behind left all sent parts whole front =
+    subst (TakesFront a c) (next_text text piece behind left all parts whole)
+    (front_of_more a c (text ++ piece) behind (sent_front_of_more a b c waiting text piece sent front))
 
 -- what follows on an error holds on an error
 pub on_err : {T E : Type 0} (r : Result T E) (P Q : Type 0) → (P → Q) → OnErr r P → OnErr r Q

@@ -1,14 +1,12 @@
-//! Reads a capture from standard input, and writes its flow lines, netflow lines where they are asked for, and its stats
-//! line to standard output.
+//! Reads a capture from standard input, runs the engine over it, and writes its flow lines, netflow lines where they are asked
+//! for, and its stats line to standard output.
 #![tactic(auto)]
 
 mod cause;
-mod counts;
 mod notes;
 mod ran;
 mod report;
 mod serve;
-mod tally;
 #[cfg(test)]
 mod test_frames;
 #[cfg(test)]
@@ -39,6 +37,7 @@ fn main(rt: HostRuntime) -> ExitCode {
     let args = env::args(&rt);
     ExitCode::from(
         run_args(
+            &rt,
             rt.alloc(),
             args,
             &mut source,

@@ -2,6 +2,7 @@
 //! be had.
 use crate::ran::Ran;
 use crate::test_frames::{A_TO_B, HEADER, T};
+use crate::test_runs::{Order, push_record, run_with};
 use crate::test_texts::EMPTY;
 use crate::top::{run, run_args};
 use sha1::Sha1;
@@ -10,7 +11,9 @@ use std::env::Args;
 use std::io;
 use std::io::ErrorKind;
 use std::process::Abort;
+use std::sync::Wait;
 use std::test::Fail;
+use std::thread::Threads;
 use suri_outside::{MemSink, MemSource, OpenGate, RepeatSource, Source};
 
 // How a run ended, what it wrote and what it noted.
@@ -31,12 +34,18 @@ fn left_in(alloc: Global, ran: Ran, sink: &MemSink, notes: &MemSink) -> Result<L
 }
 
 // A run over a source, whose sink has room for so many bytes.
-fn run_over<S: Source>(alloc: Global, source: &mut S, room: usize) -> Result<Left, Fail> {
+fn run_over<S: Source>(
+    rt: &(impl Threads + Wait + Sync),
+    alloc: Global,
+    source: &mut S,
+    room: usize,
+) -> Result<Left, Fail> {
     let mut words = Vec::new(alloc);
     words.push(String::from_str(alloc, "suri_run")?)?;
     let mut sink = MemSink::new(alloc, room, 50_000, Vec::new(alloc))?;
     let mut notes = MemSink::new(alloc, 100, 100, Vec::new(alloc))?;
     let ran = run(
+        rt,
         alloc,
         words.as_slice(),
         source,
@@ -58,16 +67,40 @@ fn assert_nothing(rt: &impl Abort, left: &Left, status: u8, note: &str) {
 fn one_byte_too_many_is_above_the_limit(rt: HostRuntime) -> Result<(), Fail> {
     let alloc = rt.alloc();
     let mut most = RepeatSource::new(0, 1_073_741_824);
-    let left = run_over(alloc, &mut most, 100)?;
+    let left = run_over(&rt, alloc, &mut most, 100)?;
     assert_nothing(&rt, &left, 5, "suri_run: capture refused: magic 00000000\n");
     let mut more = RepeatSource::new(0, 1_073_741_825);
-    let left = run_over(alloc, &mut more, 100)?;
+    let left = run_over(&rt, alloc, &mut more, 100)?;
     assert_nothing(
         &rt,
         &left,
         6,
         "suri_run: limit: more than 1073741824 bytes\n",
     );
+    Ok(())
+}
+
+#[test]
+fn many_rounds_are_above_the_limit(rt: HostRuntime) -> Result<(), Fail> {
+    let alloc = rt.alloc();
+    let mut capture = HEADER.to_vec(alloc)?;
+    for _ in 0..5000 {
+        push_record(&mut capture, Order::Little, T, 0, &A_TO_B)?;
+    }
+    let options = ["--round", "1", "--rows", "4096"];
+    let seen = run_with(
+        &rt,
+        alloc,
+        &options,
+        capture,
+        Vec::new(alloc),
+        Vec::new(alloc),
+    )?;
+    assert_eq!(rt; seen.status, 6);
+    assert!(rt; seen.text.is_empty());
+    assert_eq!(rt; seen.rows, None);
+    let note = "suri_run: limit: 5000 rounds of 4096 rows\n";
+    assert_eq!(rt; seen.note.as_slice(), note.as_bytes());
     Ok(())
 }
 
@@ -79,7 +112,7 @@ fn one_frame_too_many_is_above_the_limit(rt: HostRuntime) -> Result<(), Fail> {
         capture.extend_from_slice(&[0; 16])?;
     }
     let mut source = MemSource::new(capture, 65_536, Vec::new(alloc));
-    let left = run_over(alloc, &mut source, 100)?;
+    let left = run_over(&rt, alloc, &mut source, 100)?;
     assert_nothing(&rt, &left, 6, "suri_run: limit: more than 4194304 frames\n");
     Ok(())
 }
@@ -111,7 +144,7 @@ const MANY_FLOWS: [u8; 20] = [
 fn text_of_many_flows_is_whole(rt: HostRuntime) -> Result<(), Fail> {
     let alloc = rt.alloc();
     let mut source = MemSource::new(many_flows(alloc)?, 65_536, Vec::new(alloc));
-    let left = run_over(alloc, &mut source, 300_000)?;
+    let left = run_over(&rt, alloc, &mut source, 300_000)?;
     assert_eq!(rt; left.status, 0);
     assert!(rt; left.note.is_empty());
     assert_eq!(rt; left.text.len(), 284_499);
@@ -122,11 +155,23 @@ fn text_of_many_flows_is_whole(rt: HostRuntime) -> Result<(), Fail> {
 }
 
 // A run over what a command line gave.
-fn run_words(alloc: Global, args: io::Result<Args>) -> Result<Left, Fail> {
+fn run_words(
+    rt: &(impl Threads + Wait + Sync),
+    alloc: Global,
+    args: io::Result<Args>,
+) -> Result<Left, Fail> {
     let mut source = MemSource::new(HEADER.to_vec(alloc)?, 16, Vec::new(alloc));
     let mut sink = MemSink::new(alloc, 1000, 1000, Vec::new(alloc))?;
     let mut notes = MemSink::new(alloc, 100, 100, Vec::new(alloc))?;
-    let ran = run_args(alloc, args, &mut source, &mut sink, &mut notes, &OpenGate);
+    let ran = run_args(
+        rt,
+        alloc,
+        args,
+        &mut source,
+        &mut sink,
+        &mut notes,
+        &OpenGate,
+    );
     left_in(alloc, ran, &sink, &notes)
 }
 
@@ -137,12 +182,12 @@ fn words_that_cannot_be_had_end_the_run(rt: HostRuntime) -> Result<(), Fail> {
         (ErrorKind::OutOfMemory, 1, "suri_run: no memory\n"),
         (ErrorKind::InvalidData, 2, "suri_run: words refused\n"),
     ] {
-        let left = run_words(alloc, Err(io::Error::from(kind)))?;
+        let left = run_words(&rt, alloc, Err(io::Error::from(kind)))?;
         assert_nothing(&rt, &left, status, note);
     }
     let mut words = Vec::new(alloc);
     words.push(String::from_str(alloc, "suri_run")?)?;
-    let left = run_words(alloc, Ok(words.into_iter()))?;
+    let left = run_words(&rt, alloc, Ok(words.into_iter()))?;
     assert_eq!(rt; left.status, 0);
     assert_eq!(rt; left.text.as_slice(), EMPTY.as_bytes());
     Ok(())

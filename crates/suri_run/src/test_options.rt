@@ -5,7 +5,9 @@ use crate::test_texts::*;
 use crate::top::run;
 use std::alloc::Global;
 use std::process::Abort;
+use std::sync::Wait;
 use std::test::Fail;
+use std::thread::Threads;
 use suri_outside::{MemSink, MemSource, OpenGate, read_whole};
 
 #[test]
@@ -46,7 +48,7 @@ fn options_have_their_text(rt: HostRuntime) -> Result<(), Fail> {
 // Asserts that these words are refused with this note, and that neither the source nor the sink was touched. The write
 // of the note with this number fails, which changes nothing else.
 fn assert_refused(
-    rt: &impl Abort,
+    rt: &(impl Abort + Threads + Wait + Sync),
     alloc: Global,
     options: &[&str],
     failing_note: u64,
@@ -58,6 +60,7 @@ fn assert_refused(
     let mut sink = MemSink::new(alloc, 4096, 10, Vec::new(alloc))?;
     let mut notes = MemSink::new(alloc, 100, 7, vec![in alloc; failing_note]?)?;
     let ran = run(
+        rt,
         alloc,
         words.as_slice(),
         &mut source,
@@ -100,4 +103,117 @@ fn refused_words_have_their_notes(rt: HostRuntime) -> Result<(), Fail> {
         assert_refused(&rt, alloc, options, failing_note, note)?;
     }
     Ok(())
+}
+
+// A frame like A_TO_B, between two other hosts of the same network.
+fn between(from: u8, to: u8) -> [u8; 42] {
+    let mut frame = A_TO_B;
+    frame[29] = from;
+    frame[33] = to;
+    frame
+}
+
+// Asserts that a run over one bucket with one worker, for so many flows and in batches of so many packets, has these counts.
+fn assert_counts(
+    rt: &(impl Abort + Threads + Wait + Sync),
+    alloc: Global,
+    memcap: &str,
+    batch: &str,
+    records: &[Record<'_>],
+    counts: &str,
+) -> Result<(), Fail> {
+    let options = [
+        "--workers=1",
+        "--rows=1",
+        "--memcap",
+        memcap,
+        "--batch",
+        batch,
+    ];
+    let capture = capture_of(alloc, &HEADER, records)?;
+    let seen = run_with(
+        rt,
+        alloc,
+        &options,
+        capture,
+        Vec::new(alloc),
+        Vec::new(alloc),
+    )?;
+    assert_eq!(rt; seen.status, 0);
+    assert_eq!(rt; seen.rows, Some(1));
+    let text = str::from_utf8(seen.text.as_slice())?;
+    assert!(rt; text.contains(counts));
+    Ok(())
+}
+
+#[test]
+fn each_flow_forces_the_other_out(rt: HostRuntime) -> Result<(), Fail> {
+    let other = between(3, 4);
+    assert_counts(
+        &rt,
+        rt.alloc(),
+        "1",
+        "1",
+        &[
+            (T, 0, &A_TO_B),
+            (T, 0, &other),
+            (T, 0, &A_TO_B),
+            (T, 0, &other),
+        ],
+        "\"emergency\":0,\"emergency_entered\":1,\"forced\":3,\"memcap_full\":3,\"no_flow\":0,\"packets\":4,\"records\":4,\"segment_full\":0,\"shutdown\":1,\"tcp_reuse\":0,\"timeout\":0}",
+    )
+}
+
+#[test]
+fn packet_is_refused_where_the_only_flow_is_in_use(rt: HostRuntime) -> Result<(), Fail> {
+    let other = between(3, 4);
+    assert_counts(
+        &rt,
+        rt.alloc(),
+        "1",
+        "2",
+        &[(T, 0, &A_TO_B), (T, 0, &other)],
+        "\"emergency\":0,\"emergency_entered\":1,\"forced\":0,\"memcap_full\":1,\"no_flow\":1,\"packets\":1,\"records\":1,\"segment_full\":0,\"shutdown\":1,\"tcp_reuse\":0,\"timeout\":0}",
+    )
+}
+
+#[test]
+fn flow_that_ends_gives_its_object_to_the_next(rt: HostRuntime) -> Result<(), Fail> {
+    let records: [Record<'_>; 2] = [(T, 0, &A_TO_B), (T + 31, 0, &A_TO_B)];
+    assert_counts(
+        &rt,
+        rt.alloc(),
+        "1",
+        "1",
+        &records,
+        "\"emergency\":0,\"emergency_entered\":1,\"forced\":0,\"memcap_full\":1,\"no_flow\":0,\"packets\":2,\"records\":2,\"segment_full\":0,\"shutdown\":1,\"tcp_reuse\":0,\"timeout\":1}",
+    )?;
+    // But not while a packet of it is in hand.
+    assert_counts(
+        &rt,
+        rt.alloc(),
+        "1",
+        "2",
+        &records,
+        "\"emergency\":0,\"emergency_entered\":1,\"forced\":0,\"memcap_full\":1,\"no_flow\":1,\"packets\":1,\"records\":1,\"segment_full\":0,\"shutdown\":0,\"tcp_reuse\":0,\"timeout\":1}",
+    )
+}
+
+#[test]
+fn timeouts_are_shorter_in_an_emergency(rt: HostRuntime) -> Result<(), Fail> {
+    let other = between(3, 4);
+    let third = between(5, 6);
+    assert_counts(
+        &rt,
+        rt.alloc(),
+        "2",
+        "1",
+        &[
+            (T, 0, &A_TO_B),
+            (T, 0, &other),
+            (T, 0, &third),
+            (T + 11, 0, &other),
+        ],
+        "\"emergency\":1,\"emergency_entered\":1,\"forced\":1,\"memcap_full\":2,\"no_flow\":0,\"packets\":4,\"records\":4,\"segment_full\":0,\"shutdown\":2,\"tcp_reuse\":0,\"timeout\":1}",
+    )
 }

@@ -2,7 +2,9 @@
 use crate::top::run;
 use std::alloc::Global;
 use std::process::Abort;
+use std::sync::Wait;
 use std::test::Fail;
+use std::thread::Threads;
 use suri_outside::{MemSink, MemSource, OpenGate};
 
 // The byte order of a capture's headers.
@@ -71,6 +73,8 @@ pub(crate) struct Seen {
     pub(crate) status: u8,
     pub(crate) text: Vec<u8>,
     pub(crate) note: Vec<u8>,
+    /// How many buckets the trail has, where there is one.
+    pub(crate) rows: Option<usize>,
 }
 
 // The words of a command line: the program's name, and these behind it.
@@ -85,6 +89,7 @@ pub(crate) fn words_of(alloc: Global, options: &[&str]) -> Result<Vec<String>, F
 
 // A run with these options over a capture that comes in parts of 16 bytes and goes in parts of 10, where these calls fail.
 pub(crate) fn run_with(
+    rt: &(impl Threads + Wait + Sync),
     alloc: Global,
     options: &[&str],
     capture: Vec<u8>,
@@ -96,6 +101,7 @@ pub(crate) fn run_with(
     let mut sink = MemSink::new(alloc, 4096, 10, failing_writes)?;
     let mut notes = MemSink::new(alloc, 100, 7, Vec::new(alloc))?;
     let ran = run(
+        rt,
         alloc,
         words.as_slice(),
         &mut source,
@@ -107,33 +113,46 @@ pub(crate) fn run_with(
         status: ran.status,
         text: sink.bytes().to_vec(alloc)?,
         note: notes.bytes().to_vec(alloc)?,
+        rows: ran.trail.map(|trail| trail.buckets.len()),
     })
 }
 
 // A run without options.
-pub(crate) fn run_over(alloc: Global, capture: Vec<u8>) -> Result<Seen, Fail> {
-    run_with(alloc, &[], capture, Vec::new(alloc), Vec::new(alloc))
+pub(crate) fn run_over(
+    rt: &(impl Threads + Wait + Sync),
+    alloc: Global,
+    capture: Vec<u8>,
+) -> Result<Seen, Fail> {
+    run_with(rt, alloc, &[], capture, Vec::new(alloc), Vec::new(alloc))
 }
 
 // Asserts that a run with these options over a capture ends well and writes this text.
 pub(crate) fn assert_chosen(
-    rt: &impl Abort,
+    rt: &(impl Abort + Threads + Wait + Sync),
     alloc: Global,
     options: &[&str],
     capture: Vec<u8>,
     text: &str,
 ) -> Result<(), Fail> {
-    let seen = run_with(alloc, options, capture, Vec::new(alloc), Vec::new(alloc))?;
+    let seen = run_with(
+        rt,
+        alloc,
+        options,
+        capture,
+        Vec::new(alloc),
+        Vec::new(alloc),
+    )?;
     let written = str::from_utf8(seen.text.as_slice())?;
     assert_eq!(rt; written, text);
     assert_eq!(rt; seen.status, 0);
     assert!(rt; seen.note.is_empty());
+    assert!(rt; seen.rows.is_some());
     Ok(())
 }
 
 // Asserts the same of a run without options.
 pub(crate) fn assert_text(
-    rt: &impl Abort,
+    rt: &(impl Abort + Threads + Wait + Sync),
     alloc: Global,
     capture: Vec<u8>,
     text: &str,
@@ -145,7 +164,11 @@ pub(crate) fn assert_text(
 pub(crate) type Case<'a> = (&'a [u8; 24], &'a [Record<'a>], &'a str);
 
 // Asserts that runs over these captures end well and write their texts.
-pub(crate) fn assert_texts(rt: &impl Abort, alloc: Global, cases: &[Case<'_>]) -> Result<(), Fail> {
+pub(crate) fn assert_texts(
+    rt: &(impl Abort + Threads + Wait + Sync),
+    alloc: Global,
+    cases: &[Case<'_>],
+) -> Result<(), Fail> {
     for (header, records, text) in cases {
         let capture = capture_of(alloc, header, records)?;
         assert_text(rt, alloc, capture, text)?;

@@ -3,7 +3,9 @@ use crate::test_frames::*;
 use crate::test_runs::*;
 use crate::test_texts::*;
 use std::alloc::Global;
+use std::sync::Wait;
 use std::test::Fail;
+use std::thread::Threads;
 
 // The flags of a segment.
 const OPENING: u8 = 0x02;
@@ -114,4 +116,32 @@ fn in_reverse(alloc: Global) -> Result<Vec<u8>, Fail> {
 fn segments_in_reverse_are_put_in_order(rt: HostRuntime) -> Result<(), Fail> {
     let alloc = rt.alloc();
     assert_text(&rt, alloc, in_reverse(alloc)?, IN_REVERSE)
+}
+
+#[test]
+fn streams_stop_where_no_segment_is_left(rt: HostRuntime) -> Result<(), Fail> {
+    let alloc = rt.alloc();
+    let sent: [Sent<'_>; 3] = [
+        (End::Client, OPENING, 1000, b""),
+        (End::Client, CARRYING, 1002, b"b"),
+        (End::Client, CARRYING, 1001, b"a"),
+    ];
+    let capture = capture_sent(alloc, &sent)?;
+    let options = ["--segments", "0"];
+    let seen = run_with(
+        &rt,
+        alloc,
+        &options,
+        capture,
+        Vec::new(alloc),
+        Vec::new(alloc),
+    )?;
+    assert_eq!(rt; seen.status, 0);
+    let text = str::from_utf8(seen.text.as_slice())?;
+    let stopped =
+        "\"toserver\":{\"bytes\":0,\"sha1\":\"da39a3ee5e6b4b0d3255bfef95601890afd80709\",\"stop\":2}";
+    assert!(rt; text.contains(stopped));
+    assert!(rt; text.contains("\"records\":1,\"segment_full\":1,"));
+    assert!(rt; text.contains("\"packets\":3,"));
+    Ok(())
 }

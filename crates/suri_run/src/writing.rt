@@ -1,70 +1,88 @@
 //! Writing a report: the lines of its records and its stats line, gathered into large blocks.
 ghost use Rattle.std.specs.Io.KnownBytes.{Appends};
-ghost use Rattle.std.specs.Prelude.{◌≡◌, ◌++◌, All, IfErr, IfOk, OnErr, OnOk};
+ghost use Rattle.std.specs.Prelude.{◌≡◌, ◌++◌, All, IfErr, IfOk, OnErr, OnOk, flat_map};
 ghost use Rattle.suri_outside.specs.Bytes.{TakesAllBut, TakesFront};
 ghost use Rattle.suri_base.specs.Keys.{IsNameable};
-ghost use Rattle.suri_run.specs.Report.{lines_of, record_lines, text_of};
+ghost use Rattle.record_texts.specs.Lines.{lines_of};
+ghost use Rattle.suri_run.specs.Report.{text_of};
 ghost use Rattle.suri_run.specs.Run.{IsWriteCause};
 ghost use Rattle.eve_record.specs.StatsLine.{stats_line};
 
 use crate::cause::Cause;
 use crate::report::Report;
-use eve_record::{flow_text, netflow_text, stats_text};
+use eve_record::stats_text;
 use flow_object::FlowLine;
+use record_texts::texts;
 use run_stats::Stats;
 use std::alloc::Global;
-use suri_base::NoMemory;
+use std::thread::Threads;
 use suri_opts::Options;
 use suri_outside::{Failed, Gathered, Sink};
 
-// The lines of a record: its flow line, and its netflow lines where they are asked for.
-fn record_text(alloc: Global, options: &Options, line: &FlowLine) -> Result<Vec<u8>, NoMemory>
-    requires { IsNameable line.now.sums.key }
-    ensures { IfOk result (λ b. b.items ≡ record_lines options.now line.now) }
+/// How many records' lines are in memory at once.
+const ROUND: usize = 32_768;
+
+/// How many records' lines are made in one text: about 45 KB of flow lines, so that `malloc` need not ask the system for
+/// each text's memory.
+const PIECE: usize = 64;
+
+// Sends texts behind what waits.
+fn send_texts<K: Sink>(
+    sink: &mut K,
+    gathered: &mut Gathered,
+    texts: &[Vec<u8>],
+) -> Result<(), Cause>
+    ensures ok { OnOk result (TakesAllBut (K.taken sink.old) (K.taken sink.new) gathered.new (gathered.old ++ flat_map (λ t. t.items) texts.now)) }
+    ensures front { OnErr result (TakesFront (K.taken sink.old) (K.taken sink.new) (gathered.old ++ flat_map (λ t. t.items) texts.now)) }
+    ensures cause { IfErr result (IsWriteCause (K.faults sink.old) (K.faults sink.new)) }
+    ensures quiet { OnOk result (K.faults sink.new ≡ K.faults sink.old) }
 {
-    let mut text = flow_text(alloc, line, options.seed)?;
-    if options.netflow {
-        let netflow = netflow_text(alloc, line, options.seed)?;
-        text.extend_from_slice(&netflow)?;
+    for text in texts {
+        gathered.add(sink, text)?;
     }
-    Ok(text)
+    Ok(())
 }
 
-// Sends the lines of a record behind what waits.
-fn send_record<K: Sink>(
+// Makes the lines of a round of records, and sends them behind what waits.
+fn send_round<K: Sink>(
+    rt: &(impl Threads + Sync),
     alloc: Global,
     sink: &mut K,
     gathered: &mut Gathered,
     options: &Options,
-    line: &FlowLine,
+    round: &[FlowLine],
 ) -> Result<(), Cause>
-    requires { IsNameable line.now.sums.key }
-    ensures ok { OnOk result (TakesAllBut (K.taken sink.old) (K.taken sink.new) gathered.new (gathered.old ++ record_lines options.now line.now)) }
-    ensures front { OnErr result (TakesFront (K.taken sink.old) (K.taken sink.new) (gathered.old ++ record_lines options.now line.now)) }
+    requires { All (λ line. IsNameable line.sums.key) round.now }
+    ensures ok { OnOk result (TakesAllBut (K.taken sink.old) (K.taken sink.new) gathered.new
+        (gathered.old ++ lines_of options.now.seed options.now.netflow round.now)) }
+    ensures front { OnErr result (TakesFront (K.taken sink.old) (K.taken sink.new)
+        (gathered.old ++ lines_of options.now.seed options.now.netflow round.now)) }
     ensures cause { IfErr result (IsWriteCause (K.faults sink.old) (K.faults sink.new)) }
     ensures quiet { OnOk result (K.faults sink.new ≡ K.faults sink.old) }
 {
-    let text = record_text(alloc, options, line)?;
-    gathered.add(sink, &text)?;
-    Ok(())
+    let texts = texts(rt, alloc, round, options.seed, options.netflow, PIECE)?;
+    send_texts(sink, gathered, &texts)
 }
 
-// Sends the lines of all records. What is answered still waits.
+// Sends the lines of all records, round by round. What is answered still waits.
 fn send_lines<K: Sink>(
+    rt: &(impl Threads + Sync),
     alloc: Global,
     sink: &mut K,
     options: &Options,
     lines: &[FlowLine],
 ) -> Result<Gathered, Cause>
     requires { All (λ line. IsNameable line.sums.key) lines.now }
-    ensures ok { IfOk result (λ g. TakesAllBut (K.taken sink.old) (K.taken sink.new) g (lines_of options.now lines.now)) }
-    ensures front { OnErr result (TakesFront (K.taken sink.old) (K.taken sink.new) (lines_of options.now lines.now)) }
+    ensures ok { IfOk result (λ g. TakesAllBut (K.taken sink.old) (K.taken sink.new) g
+        (lines_of options.now.seed options.now.netflow lines.now)) }
+    ensures front { OnErr result (TakesFront (K.taken sink.old) (K.taken sink.new)
+        (lines_of options.now.seed options.now.netflow lines.now)) }
     ensures cause { IfErr result (IsWriteCause (K.faults sink.old) (K.faults sink.new)) }
     ensures quiet { OnOk result (K.faults sink.new ≡ K.faults sink.old) }
 {
     let mut gathered = Gathered::new(alloc);
-    for line in lines {
-        send_record(alloc, sink, &mut gathered, options, line)?;
+    for round in lines.chunks(ROUND) {
+        send_round(rt, alloc, sink, &mut gathered, options, round)?;
     }
     Ok(gathered)
 }
@@ -89,8 +107,10 @@ fn send_stats<K: Sink>(
     }
 }
 
-/// Writes the text of a report. Where memory runs out or a write fails, a front of it was written.
+/// Writes the text of a report, whose lines are made by several threads. Where memory runs out or a write fails, a front
+/// of it was written.
 pub fn write_report<K: Sink>(
+    rt: &(impl Threads + Sync),
     alloc: Global,
     sink: &mut K,
     options: &Options,
@@ -104,6 +124,6 @@ pub fn write_report<K: Sink>(
     ensures cause { IfErr result (IsWriteCause (K.faults sink.old) (K.faults sink.new)) }
     ensures quiet { OnOk result (K.faults sink.new ≡ K.faults sink.old) }
 {
-    let gathered = send_lines(alloc, sink, options, &report.lines)?;
+    let gathered = send_lines(rt, alloc, sink, options, &report.lines)?;
     send_stats(alloc, sink, gathered, &report.stats)
 }

@@ -16,11 +16,11 @@ use Rattle.capture_index.proofs.Piecing.{pieces_are, pieces_join}
 use Rattle.capture_index.proofs.capture.index.Goals as goal
 
 pub decode_pieces-requires-clause-as_many : goal.decode_pieces-requires-clause-as_many
-decode_pieces-requires-clause-as_many c =
+decode_pieces-requires-clause-as_many g c _ _ =
     ap (length {A = ℕ}) (c.deref-4.ensures.value ∙ c.in_ok-clocks.ensures) ∙ clocks_count _ c.deref.result.now ∙ ap (length {A = Frame}) (c.deref.ensures.value ∙ sym c.deref-3.ensures.value)
 
 pub link-requires-clause-kept : goal.link-requires-clause-kept
-link-requires-clause-kept c =
+link-requires-clause-kept g c =
     let whole : List Seen = all_seen c.file.inside.link c.args.bytes.items c.file.inside.list.items c.in_ok-clocks.clocks.items in
     let few : length c.file.inside.list.items ≤ 4194304 = rw (ap (λ (f : CaptureFile). f.frames) c.file.view_is) c.requires.few in (
       whole,
@@ -37,7 +37,7 @@ link-requires-clause-kept c =
     )
 
 pub of-slots-requires-clause-full : goal.of-slots-requires-clause-full
-of-slots-requires-clause-full c =
+of-slots-requires-clause-full g c =
     let whole : List Seen = all_seen c.file.inside.link c.args.bytes.items c.file.inside.list.items c.in_ok-clocks.clocks.items in
     let lists : map (λ p. p.items) c.in_ok-link.field-0.items ≡ pieces_of 65536 (linked whole) = c.in_ok-link.ensures whole (kept c.file.inside.link c.deref-2.result.now c.args.bytes.items c.deref.result.now c.deref-3.result.now c.file.inside.list.items c.deref-4.result.now c.in_ok-clocks.clocks.items c.deref-2.ensures.value c.deref.ensures.value
     c.deref-3.ensures.value c.deref-4.ensures.value c.in_ok-clocks.ensures c.in_ok-pieces.ensures.read (rw (ap (λ (f : CaptureFile). f.frames) c.file.view_is) c.requires.inside) 65536 _ c.in_ok-pieces.ensures.value) (numbered_from c.file.inside.link c.deref-2.result.now c.args.bytes.items c.deref.result.now c.deref-3.result.now c.file.inside.list.items c.deref-4.result.now c.in_ok-clocks.clocks.items c.deref-2.ensures.value c.deref.ensures.value
@@ -45,7 +45,7 @@ of-slots-requires-clause-full c =
     subst (λ (l : List (List Slot)). ArePieces 65536 l) (sym lists) (pieces_are 65536 (linked whole) (omega arith))
 
 pub make-requires : goal.make-requires
-make-requires c =
+make-requires g c =
     let whole : List Seen = all_seen c.file.inside.link c.args.bytes.items c.file.inside.list.items c.in_ok-clocks.clocks.items in
     let lists : map (λ p. p.items) c.in_ok-link.field-0.items ≡ pieces_of 65536 (linked whole) = c.in_ok-link.ensures whole (kept c.file.inside.link c.deref-2.result.now c.args.bytes.items c.deref.result.now c.deref-3.result.now c.file.inside.list.items c.deref-4.result.now c.in_ok-clocks.clocks.items c.deref-2.ensures.value c.deref.ensures.value
     c.deref-3.ensures.value c.deref-4.ensures.value c.in_ok-clocks.ensures c.in_ok-pieces.ensures.read (rw (ap (λ (f : CaptureFile). f.frames) c.file.view_is) c.requires.inside) 65536 _ c.in_ok-pieces.ensures.value) (numbered_from c.file.inside.link c.deref-2.result.now c.args.bytes.items c.deref.result.now c.deref-3.result.now c.file.inside.list.items c.deref-4.result.now c.in_ok-clocks.clocks.items c.deref-2.ensures.value c.deref.ensures.value
@@ -56,7 +56,7 @@ make-requires c =
     (linked whole, slots, fits)
 
 pub returns-clause-value : goal.returns-clause-value
-returns-clause-value c =
+returns-clause-value g c =
     let whole : List Seen = all_seen c.file.inside.link c.args.bytes.items c.file.inside.list.items c.in_ok-clocks.clocks.items in
     let lists : map (λ p. p.items) c.in_ok-link.field-0.items ≡ pieces_of 65536 (linked whole) = c.in_ok-link.ensures whole (kept c.file.inside.link c.deref-2.result.now c.args.bytes.items c.deref.result.now c.deref-3.result.now c.file.inside.list.items c.deref-4.result.now c.in_ok-clocks.clocks.items c.deref-2.ensures.value c.deref.ensures.value
     c.deref-3.ensures.value c.deref-4.ensures.value c.in_ok-clocks.ensures c.in_ok-pieces.ensures.read (rw (ap (λ (f : CaptureFile). f.frames) c.file.view_is) c.requires.inside) 65536 _ c.in_ok-pieces.ensures.value) (numbered_from c.file.inside.link c.deref-2.result.now c.args.bytes.items c.deref.result.now c.deref-3.result.now c.file.inside.list.items c.deref-4.result.now c.in_ok-clocks.clocks.items c.deref-2.ensures.value c.deref.ensures.value
@@ -71,7 +71,7 @@ returns-clause-value c =
     c.deref-3.ensures.value c.deref-4.ensures.value c.in_ok-clocks.ensures c.in_ok-pieces.ensures.read (rw (ap (λ (f : CaptureFile). f.frames) c.file.view_is) c.requires.inside)) ∙ ap (λ (f : CaptureFile). captured_of c.args.bytes.items f) c.file.view_is
 
 pub returns-clause-linked : goal.returns-clause-linked
-returns-clause-linked c =
+returns-clause-linked g c =
     let whole : List Seen = all_seen c.file.inside.link c.args.bytes.items c.file.inside.list.items c.in_ok-clocks.clocks.items in
     let lists : map (λ p. p.items) c.in_ok-link.field-0.items ≡ pieces_of 65536 (linked whole) = c.in_ok-link.ensures whole (kept c.file.inside.link c.deref-2.result.now c.args.bytes.items c.deref.result.now c.deref-3.result.now c.file.inside.list.items c.deref-4.result.now c.in_ok-clocks.clocks.items c.deref-2.ensures.value c.deref.ensures.value
     c.deref-3.ensures.value c.deref-4.ensures.value c.in_ok-clocks.ensures c.in_ok-pieces.ensures.read (rw (ap (λ (f : CaptureFile). f.frames) c.file.view_is) c.requires.inside) 65536 _ c.in_ok-pieces.ensures.value) (numbered_from c.file.inside.link c.deref-2.result.now c.args.bytes.items c.deref.result.now c.deref-3.result.now c.file.inside.list.items c.deref-4.result.now c.in_ok-clocks.clocks.items c.deref-2.ensures.value c.deref.ensures.value
@@ -83,7 +83,7 @@ returns-clause-linked c =
     subst (λ (x : Captured). AreLinked x.seen) (sym made) (linked_are whole)
 
 pub returns-clause-order : goal.returns-clause-order
-returns-clause-order c =
+returns-clause-order g c =
     let whole : List Seen = all_seen c.file.inside.link c.args.bytes.items c.file.inside.list.items c.in_ok-clocks.clocks.items in
     let lists : map (λ p. p.items) c.in_ok-link.field-0.items ≡ pieces_of 65536 (linked whole) = c.in_ok-link.ensures whole (kept c.file.inside.link c.deref-2.result.now c.args.bytes.items c.deref.result.now c.deref-3.result.now c.file.inside.list.items c.deref-4.result.now c.in_ok-clocks.clocks.items c.deref-2.ensures.value c.deref.ensures.value
     c.deref-3.ensures.value c.deref-4.ensures.value c.in_ok-clocks.ensures c.in_ok-pieces.ensures.read (rw (ap (λ (f : CaptureFile). f.frames) c.file.view_is) c.requires.inside) 65536 _ c.in_ok-pieces.ensures.value) (numbered_from c.file.inside.link c.deref-2.result.now c.args.bytes.items c.deref.result.now c.deref-3.result.now c.file.inside.list.items c.deref-4.result.now c.in_ok-clocks.clocks.items c.deref-2.ensures.value c.deref.ensures.value

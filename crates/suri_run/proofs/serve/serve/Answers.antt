@@ -1,14 +1,7 @@
-use Rattle.std.proofs.Common.{rules, subst, sym}
-use Rattle.suri_run.specs.Run.{IsUnreported}
-use Rattle.std.proofs.lemmas.Result.{err_from_is_err_and}
-use Rattle.suri_run.proofs.Complete.{unreported_ends}
+use Rattle.suri_run.proofs.Complete.{written}
 use Rattle.suri_run.proofs.serve.serve.Goals as goal
 
-pub returns-in_err-report-clause-ends : goal.returns-in_err-report-clause-ends
-returns-in_err-report-clause-ends g c =
-    let p = err_from_is_err_and c.from_residual.result c.from_residual.ensures.1 in
-    rw p.1
-    (unreported_ends _ _ _ _ c.in-Ok-read_whole.bytes.items (c.in-Ok.options, record { chosen = c.in-Ok.ensures.chosen.0; fit = c.in-Ok.ensures.chosen.1 })
-    (record { ended = c.in-Ok-read_whole.ensures.ended; quiet = c.in-Ok-read_whole.ensures.quiet (λ e. cc) }) c.in-Ok-read_whole.ensures.stops
-    (record { told = c.in-Ok-read_whole.ensures.whole; within = search rules }) (search rules)
-    (subst (IsUnreported c.in-Ok-read_whole.bytes.items) (sym p.2) c.in_err-report.ensures.refused))
+pub returns-in-Ok-clause-ends : goal.returns-in-Ok-clause-ends
+returns-in-Ok-clause-ends g c =
+    written c.write_report-outcome.result _ _ _ c.in-Ok.options c.in-Ok.report.trail c.in-Ok.report.lines.items c.in-Ok.report.stats c.in-Ok.ensures.ready
+    c.write_report-outcome.ensures.ok c.write_report-outcome.ensures.front c.write_report-outcome.ensures.cause c.write_report-outcome.ensures.quiet
