@@ -1,0 +1,12 @@
+pub mod Stopping
+pub mod Calming
+pub mod Clocks
+pub mod Uncutting
+pub mod Ending
+pub mod Chaining
+pub mod Neighbours
+pub mod Piecing
+pub mod Members
+pub mod Sorting
+pub mod Matching
+pub mod Counting

@@ -1,0 +1,4 @@
+pub mod Calm
+pub mod Plainly
+pub mod Pieces
+pub mod Counts
