@@ -1,0 +1,9 @@
+//! A finite map from keys to slots, in the order of the keys.
+#![tactic(auto)]
+
+mod chunks;
+mod order;
+#[cfg(test)]
+mod tests;
+
+pub use order::Order;
