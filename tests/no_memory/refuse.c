@@ -1,4 +1,4 @@
-// Preloaded before a program, refuses its allocation number REFUSED (from 1) and no other.
+// Preloaded before a program, refuses its allocation number REFUSED (from 1, over all threads) and no other.
 #define _GNU_SOURCE
 #include <dlfcn.h>
 #include <errno.h>
@@ -12,7 +12,7 @@ static int is_refused(void) {
     const char *number = getenv("REFUSED");
     refused = number ? atol(number) : 0;
   }
-  return ++made == refused;
+  return __atomic_add_fetch(&made, 1, __ATOMIC_RELAXED) == refused;
 }
 
 void *malloc(size_t size) {
