@@ -5,7 +5,8 @@ seconds, and the greatest resident memory.
 
     tests/peers.py [--runs RUNS] CAPTURE..
 
-Suricata writes flow, netflow and stats records, and has no rules. No part of the gate.
+Suricata writes flow, netflow and stats records, and has no rules. All run with huge pages asked of the C library, as bin/suri_run has it, but where
+GLIBC_TUNABLES is set. No part of the gate.
 """
 import argparse
 import os
