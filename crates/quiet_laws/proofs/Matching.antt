@@ -23,7 +23,7 @@ use Rattle.flow_object.specs.Object.{Stops, no_stops}
 use Rattle.flow_object.specs.declared.outcome.FlowLine.{FlowLine}
 use Rattle.flow_sum.specs.Run.{Run, first_of, members}
 use Rattle.plain_runs.proofs.Same.{number_of}
-use Rattle.plain_runs.specs.Plain.{ArePlain, FirstsRise, PlainRun, cut_reason, plain_runs_of, reason_of, record_of, records_of, with_key}
+use Rattle.plain_runs.specs.Plain.{ArePlain, FirstsRise, PlainRun, plain_runs_of, reason_of, record_of, records_of, with_key}
 use Rattle.plain_runs.specs.Plain as plain
 use Rattle.quiet_laws.proofs.Calming.{calm}
 use Rattle.quiet_laws.proofs.Members.{begun_in, begun_of, begun_once, in_map, in_mapped, in_passed, in_passing, in_reverse, in_reversed}

@@ -1,12 +1,11 @@
 -- The frames of a capture that bear packets, by their numbers: each is there once, and together they weigh what the packets weigh, whatever is
 -- weighed.
-use Rattle.std.proofs.Common.{◌≡◌, ℕ, zero, suc, ◌+◌, ◌-◌, ◌<◌, ◌≤◌, Bool, cond, List, [], ◌∷◌, ◌++◌, filter, length, Option, Some, None, ◌⊎◌, inl, inr, refl, sym, ◌∙◌, ap, subst, arith}
+use Rattle.std.proofs.Common.{◌≡◌, ℕ, zero, suc, ◌+◌, ◌-◌, ◌<◌, ◌≤◌, Bool, cond, List, [], ◌∷◌, ◌++◌, filter, length, Option, Some, None, ◌⊎◌, inl, inr, refl, ◌∙◌, ap, arith}
 use Rattle.std.specs.Option.{is_some, option_to_list}
 use Rattle.std.specs.Prelude.{get_or, slice_get, sum_by, take}
 use Rattle.std.proofs.Math.Seq.{take-length, take-suc}
 use Rattle.std.proofs.lemmas.List.Sums.{sum_by-append, sum_by-cons}
-use Rattle.std.proofs.lemmas.List.{take_more}
-use Rattle.std.proofs.lemmas.Option.{slice_get-get_or, slice_get_cases}
+use Rattle.std.proofs.lemmas.Option.{slice_get_cases}
 use Rattle.bucket_laws.proofs.Falling.{down_from}
 use Rattle.bucket_laws.proofs.Listing.{bearing_within}
 use Rattle.bucket_laws.specs.Counts.{one_if}
@@ -15,12 +14,9 @@ use Rattle.run_counts.proofs.Adding.{sum_over}
 use Rattle.run_counts.proofs.Answered.{count_down, count_filter, count_left_out}
 use Rattle.run_counts.proofs.Naming.{weight_at, weight_of}
 use Rattle.run_laws.proofs.Counting.{count_in}
-use Rattle.suri_base.specs.Capture.{Captured, counter_in, facts_in, packets_in}
-use Rattle.suri_base.specs.declared.counter.Counter.{Counter}
-use Rattle.suri_base.specs.declared.counter.Counter.TheVariants.{LinkSmall}
+use Rattle.suri_base.specs.Capture.{Captured, facts_in, packets_in}
 use Rattle.suri_base.specs.declared.facts.Facts.{Facts}
 use Rattle.suri_base.specs.declared.seen.Seen.{Seen}
-use Rattle.suri_base.specs.declared.seen.Seen.TheVariants.{Bears, Counted}
 
 -- the frame bears a packet
 abbrev pub bears : Captured → ℕ → Bool

@@ -1,5 +1,5 @@
 -- The key of each record can be named: it is that of the run's first packet, which is one of the capture.
-use Rattle.std.proofs.Common.{◌≡◌, ℕ, zero, suc, ◌-◌, ◌<◌, ◌≤◌, Bool, true, false, cond, List, [], ◌∷◌, ◌++◌, filter, length, map, Option, Some, None, inl, inr, refl, sym, ◌∙◌, ap, subst, arith, mod-lt, ◌/◌}
+use Rattle.std.proofs.Common.{◌≡◌, ℕ, zero, suc, ◌-◌, ◌<◌, ◌≤◌, Bool, true, false, cond, List, [], ◌∷◌, filter, length, map, Option, Some, None, inl, inr, refl, sym, ◌∙◌, ap, subst, arith, mod-lt, ◌/◌}
 use Rattle.std.specs.Prelude.{All, slice_index_or}
 use Rattle.std.proofs.lemmas.List.Elements.{All-cons}
 use Rattle.suri_base.specs.Capture.{packets_in}
@@ -10,7 +10,7 @@ use Rattle.suri_base.specs.declared.entry.BucketNote.{BucketNote}
 use Rattle.suri_base.specs.declared.entry.Entry.{Entry}
 use Rattle.suri_base.specs.declared.facts.Facts.{Facts}
 use Rattle.capture_index.specs.Order.{AreInOrder}
-use Rattle.flow_sum.specs.Run.{Run, first_of}
+use Rattle.flow_sum.specs.Run.{first_of}
 use Rattle.flow_object.specs.declared.outcome.FlowLine.{FlowLine}
 use Rattle.bucket_rules.specs.Packets.{bearing}
 use Rattle.bucket_rules.specs.Row.{Place, Row, blank, detached, has, linked, made, row, unbegun}

@@ -6,11 +6,11 @@ ghost use Rattle.run_counts.specs.Adding.{under_counters};
 ghost use Rattle.run_counts.specs.Counting.{IsStatsOf};
 ghost use Rattle.run_laws.specs.Setting.{IsLayout};
 ghost use Rattle.run_round.specs.Accounts.{AccountsFor, setup_for};
-ghost use Rattle.std.specs.Prelude.{◌≡◌, ◌+◌, ◌^◌, ◌≤◌, ◌⊎◌, All, IfErr, IfOk, Ok, length, ℕ};
+ghost use Rattle.std.specs.Prelude.{◌≡◌, ◌+◌, ◌^◌, ◌≤◌, All, IfErr, IfOk, Ok, length};
 ghost use Rattle.suri_base.specs.Capture.{IsCapture, packets_in};
 ghost use Rattle.suri_base.specs.Frames.{AreNumbered};
 ghost use Rattle.suri_base.specs.Keys.{IsNameable};
-ghost use Rattle.suri_run.specs.Report.{AreMany, IsAccount};
+ghost use Rattle.suri_run.specs.Report.{IsAccount};
 ghost use Rattle.suri_run.specs.Run.{IsUnreported};
 
 use crate::cause::Cause;

@@ -3,9 +3,7 @@ use crate::test_frames::*;
 use crate::test_runs::*;
 use crate::test_texts::*;
 use std::alloc::Global;
-use std::sync::Wait;
 use std::test::Fail;
-use std::thread::Threads;
 
 // The flags of a segment.
 const OPENING: u8 = 0x02;

@@ -1,4 +1,4 @@
-use Rattle.std.proofs.Common.{arith, subst}
+use Rattle.std.proofs.Common.{arith}
 use Rattle.run_laws.specs.Setting.{IsSetup}
 use Rattle.run_rules.specs.Histories.{histories_of}
 use Rattle.run_rules.specs.Setup.{Setup}

@@ -1,4 +1,4 @@
-use Rattle.std.proofs.Common.{rules, arith}
+use Rattle.std.proofs.Common.{rules}
 use Rattle.run_rules.specs.Histories.{histories_of}
 use Rattle.run_rules.specs.Runs.{runs_in}
 use Rattle.run_round.specs.Accounts.{setup_for}
