@@ -11,7 +11,7 @@ use Rattle.suri_base.specs.declared.facts.Facts.{Facts}
 use Rattle.suri_base.specs.Linked.{Linked}
 use Rattle.suri_base.specs.declared.stream.Offer.{Offer}
 use Rattle.reassembly.specs.Kept.{waiting_among}
-use Rattle.reassembly.specs.declared.spot.Spot.{Spot}
+use Rattle.segment_tree.specs.declared.spot.Spot.{Spot}
 use Rattle.flow_sum.specs.Run.{alone}
 use Rattle.flow_object.specs.Object.{Stops, no_stops, nodes_in, stops_in}
 use Rattle.flow_object.specs.Standing.{AsksFor, StandsFor, stopped_at_newest}

@@ -12,7 +12,7 @@ use Rattle.suri_base.specs.declared.stream.Offer.TheVariants as offer
 use Rattle.bucket_rules.specs.Own.{is_needing}
 use Rattle.reassembly.specs.Kept.{KeptStream}
 use Rattle.reassembly.specs.Members.{Member}
-use Rattle.reassembly.specs.declared.spot.Spot.{Spot}
+use Rattle.segment_tree.specs.declared.spot.Spot.{Spot}
 use Rattle.flow_sum.specs.Run.{Run, alone, first_of, members, with_one_more}
 use Rattle.flow_sum.specs.Sums.{client_of, sent_by, sums_of}
 use Rattle.flow_sum.specs.declared.sums.Sums.{Sums}

@@ -3,7 +3,7 @@ use Rattle.std.proofs.Common.{◌≡◌, ℕ, cond, Bool, true, false, List, [],
 use Rattle.std.specs.Prelude.{IsSome}
 use Rattle.reassembly.specs.Kept.{KeptStream, Stands}
 use Rattle.reassembly.specs.Members.{Member}
-use Rattle.reassembly.specs.declared.spot.Spot.{Spot}
+use Rattle.segment_tree.specs.declared.spot.Spot.{Spot}
 use Rattle.suri_base.specs.declared.app.App.{App}
 use Rattle.flow_sum.specs.Run.{Run}
 use Rattle.flow_object.specs.Object.{Object, Stops, stops_in}

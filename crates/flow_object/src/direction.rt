@@ -5,7 +5,7 @@ ghost use Rattle.flow_object.specs.Standing.{NewestAsks};
 ghost use Rattle.flow_object.specs.Streams.{offer_to, with_member};
 ghost use Rattle.reassembly.specs.Kept.{AllLieIn, Stands, held, newest_of};
 ghost use Rattle.reassembly.specs.Members.{Member};
-ghost use Rattle.reassembly.specs.declared.spot.Spot.{Spot};
+ghost use Rattle.segment_tree.specs.declared.spot.Spot.{Spot};
 ghost use Rattle.suri_base.specs.App.{payload_of};
 ghost use Rattle.suri_base.specs.Capture.{HasFacts};
 ghost use Rattle.suri_base.specs.Chain.{IsAlone};

@@ -25,7 +25,7 @@ ghost use Rattle.flow_sum.specs.Run.{Run, alone, with_one_more};
 ghost use Rattle.flow_sum.specs.Sums.{InRange, dir_of, way_of};
 ghost use Rattle.reassembly.specs.Kept.{IsBlank, Tells};
 ghost use Rattle.reassembly.specs.Members.{Member, line_of};
-ghost use Rattle.reassembly.specs.declared.spot.Spot.{Spot};
+ghost use Rattle.segment_tree.specs.declared.spot.Spot.{Spot};
 ghost use Rattle.suri_base.specs.App.{or_else, payload_of};
 ghost use Rattle.suri_base.specs.Capture.{HasFacts};
 ghost use Rattle.suri_base.specs.Chain.{IsAlone};

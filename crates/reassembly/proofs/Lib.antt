@@ -1,7 +1,8 @@
 pub mod Answering
+pub mod ByNumber
 pub mod Bytes
-pub mod Earlier
 pub mod Examples
+pub mod Newer
 pub mod Offering
 pub mod Places
 pub mod Standing

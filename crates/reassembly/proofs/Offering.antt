@@ -1,16 +1,15 @@
 -- What the parts of an offer give together.
-use Rattle.std.proofs.Common.{◌≡◌, ℕ, ◌+◌, ◌-◌, ◌<◌, ◌≤◌, ◌%◌, ◌^◌, min, true, false, cond, Bool, List, ◌∷◌, length, map, Option, Some}
+use Rattle.std.proofs.Common.{◌≡◌, ℕ, ◌+◌, ◌-◌, ◌<◌, ◌≤◌, ◌%◌, ◌^◌, min, true, false, cond, Bool, List, ◌∷◌, length, Option, Some}
 use Rattle.std.proofs.Common.{None, sym, ap, ◌∙◌, subst, arith}
 use Rattle.std.specs.Prelude.{nat_lt}
 use Rattle.std.specs.Option.{option_or, unwrap_or}
-use Rattle.suri_base.specs.Node.{Node}
 use Rattle.suri_base.specs.declared.stream.Offer.{Offer}
 use Rattle.suri_base.specs.declared.stream.Offer.TheVariants.{NeedsSegment}
 use Rattle.reassembly.specs.Kept.{AllLieIn, KeptStream, Stands, newest_of, spot_in}
 use Rattle.reassembly.specs.Members.{Member, base_of, bytes_of, early, first_of, sequence_of, sets_base}
-use Rattle.reassembly.specs.Nodes.{parts_at, spot_of, LieWithin}
+use Rattle.reassembly.specs.Nodes.{parts_at, LieWithin}
 use Rattle.reassembly.specs.Parts.{answer_to, bytes_from, byte_at, byte_in, frontier_of, part, waiting_of, EndsBelow, Part}
-use Rattle.reassembly.specs.declared.spot.Spot.{Spot}
+use Rattle.segment_tree.specs.declared.spot.Spot.{Spot}
 use Rattle.reassembly.proofs.Bytes.{from_few, from_same}
 use Rattle.reassembly.proofs.Places.{parts_lie, spots_have, spots_within, waiting_lie}
 use Rattle.reassembly.proofs.Standing.{Unstopped, Seen, brought, open_of, seen_of}
@@ -19,12 +18,11 @@ use Rattle.reassembly.proofs.Turns.{ends_below, part_below, seen_from}
 use Rattle.reassembly.proofs.Waiting.{skips, waiting_has}
 
 -- what is known when a member is offered
-pub record Given (now : KeptStream) (bytes : List ℕ) (nodes : List Node) (m : Member) (members : List Member) : Type 0 where
+pub record Given (now : KeptStream) (bytes : List ℕ) (m : Member) (members : List Member) : Type 0 where
   pub stands : Stands now members
   pub lie : AllLieIn bytes members
   pub later : newest_of members < m.no
   pub none : now.stop ≡ 0
-  pub were : map spot_of nodes ≡ now.waiting
 
 -- what a member brings was found
 pub record Found (depth : ℕ) (m : Member) (members : List Member) (base : Option ℕ) (first : ℕ) (packet : List ℕ) : Type 0 where
@@ -47,7 +45,7 @@ found_by depth m members was opening base start sequence first packet is_was is_
           ∙ ap (λ (k : ℕ). bytes_of depth (unwrap_or (base_of (m ∷ members)) 0) k m.payload) is_sequence);
     }
 
-module _ (now : KeptStream) (bytes : List ℕ) (nodes : List Node) (m : Member) (members : List Member) (g : Given now bytes nodes m members) where
+module _ (now : KeptStream) (bytes : List ℕ) (m : Member) (members : List Member) (g : Given now bytes m members) where
   abbrev before : List Part
   before = seen_from now.depth m members
 
@@ -57,12 +55,12 @@ module _ (now : KeptStream) (bytes : List ℕ) (nodes : List Node) (m : Member) 
   pub seen : Seen now m members
   seen = seen_of now m members opened
 
-  pub have : parts_at bytes nodes ≡ waiting_of now.depth (seen_from now.depth m members)
-  have = spots_have bytes nodes (waiting_of now.depth before) (g.were ∙ seen.waiting)
+  pub have : parts_at bytes now.waiting ≡ waiting_of now.depth (seen_from now.depth m members)
+  have = spots_have bytes now.waiting (waiting_of now.depth before) seen.waiting
       (waiting_lie bytes now.depth before (parts_lie bytes now.depth _ members g.lie))
 
-  pub within : LieWithin (length bytes) nodes
-  within = spots_within bytes nodes (waiting_of now.depth before) (g.were ∙ seen.waiting)
+  pub within : LieWithin (length bytes) now.waiting
+  within = spots_within bytes now.waiting (waiting_of now.depth before) seen.waiting
       (waiting_lie bytes now.depth before (parts_lie bytes now.depth _ members g.lie))
 
   pub ends : EndsBelow now.depth (seen_from now.depth m members)
@@ -72,7 +70,7 @@ module _ (now : KeptStream) (bytes : List ℕ) (nodes : List Node) (m : Member) 
   low = omega (arith, seen.frontier, from_few (byte_at before) 0 now.depth)
 
   -- beyond the frontier the nodes have the bytes of all members
-  pub same : (k : ℕ) → frontier_of now.depth (seen_from now.depth m members) ≤ k → byte_at (parts_at bytes nodes) k ≡ byte_at (seen_from now.depth m members) k
+  pub same : (k : ℕ) → frontier_of now.depth (seen_from now.depth m members) ≤ k → byte_at (parts_at bytes now.waiting) k ≡ byte_at (seen_from now.depth m members) k
   same k later = ap (λ (l : List Part). byte_at l k) have ∙ waiting_has now.depth k before ends later
 
   module _ (base : Option ℕ) (first : ℕ) (packet : List ℕ) (found : Found now.depth m members base first packet) where
@@ -80,25 +78,25 @@ module _ (now : KeptStream) (bytes : List ℕ) (nodes : List Node) (m : Member) 
     brings k = ap (λ (f : ℕ). byte_in (part 0 f 0 packet) k) found.is_first
         ∙ ap (λ (l : List ℕ). byte_in (part 0 (brought now.depth m members).first 0 l) k) found.is_bytes
 
-    pub next_ends : EndsBelow now.depth (part 0 first 0 packet ∷ parts_at bytes nodes)
+    pub next_ends : EndsBelow now.depth (part 0 first 0 packet ∷ parts_at bytes now.waiting)
     next_ends = λ k past.
         let later : frontier_of now.depth before ≤ k = omega (arith, from_few (byte_at before) 0 now.depth) in
-        skips (parts_at bytes nodes) (part 0 first 0 packet) k (brings k ∙ part_below now.depth _ k m past) ∙ (same k later ∙ ends k past)
+        skips (parts_at bytes now.waiting) (part 0 first 0 packet) k (brings k ∙ part_below now.depth _ k m past) ∙ (same k later ∙ ends k past)
 
-    pub next_is : bytes_from (byte_at (part 0 first 0 packet ∷ parts_at bytes nodes)) now.frontier (now.depth - now.frontier)
+    pub next_is : bytes_from (byte_at (part 0 first 0 packet ∷ parts_at bytes now.waiting)) now.frontier (now.depth - now.frontier)
         ≡ bytes_from (byte_at (brought now.depth m members ∷ seen_from now.depth m members)) now.frontier (now.depth - now.frontier)
     next_is =
-        from_same (byte_at (part 0 first 0 packet ∷ parts_at bytes nodes)) (byte_at (brought now.depth m members ∷ parts_at bytes nodes)) now.frontier
+        from_same (byte_at (part 0 first 0 packet ∷ parts_at bytes now.waiting)) (byte_at (brought now.depth m members ∷ parts_at bytes now.waiting)) now.frontier
         (now.depth - now.frontier)
-        (λ i h. ap (option_or (byte_at (parts_at bytes nodes) (now.frontier + i))) (brings (now.frontier + i)))
-        ∙ subst (λ (f : ℕ). bytes_from (byte_at (brought now.depth m members ∷ parts_at bytes nodes)) f (now.depth - f)
+        (λ i h. ap (option_or (byte_at (parts_at bytes now.waiting) (now.frontier + i))) (brings (now.frontier + i)))
+        ∙ subst (λ (f : ℕ). bytes_from (byte_at (brought now.depth m members ∷ parts_at bytes now.waiting)) f (now.depth - f)
         ≡ bytes_from (byte_at (brought now.depth m members ∷ before)) f (now.depth - f))
-        (sym seen.frontier) (next_same now.depth before (parts_at bytes nodes) (brought now.depth m members) same)
+        (sym seen.frontier) (next_same now.depth before (parts_at bytes now.waiting) (brought now.depth m members) same)
 
     -- the answer
     pub answered : (offer : Offer)
         → ((depth : ℕ) (parts : List Part) (number place : ℕ) → EndsBelow depth parts → now.frontier ≡ frontier_of depth parts
-        → parts_at bytes nodes ≡ waiting_of depth parts
+        → parts_at bytes now.waiting ≡ waiting_of depth parts
         → offer ≡ answer_to depth parts (part number first place packet))
         → offer ≡ answer_to now.depth (seen_from now.depth m members) (brought now.depth m members)
     answered offer told =

@@ -3,12 +3,11 @@ use Rattle.std.proofs.Common.{◌≡◌, ℕ, zero, suc, ◌+◌, ◌-◌, ◌�
 use Rattle.std.proofs.Common.{drop, refl, sym, ap, ◌∙◌, arith, length-drop}
 use Rattle.std.specs.Prelude.{nat_lt, slice_range}
 use Rattle.std.proofs.lemmas.List.{length-take}
-use Rattle.suri_base.specs.Node.{Node}
 use Rattle.reassembly.specs.Kept.{AllLieIn, LiesIn, spot_in}
 use Rattle.reassembly.specs.Members.{Member, early, first_of, part_of, sequence_of}
-use Rattle.reassembly.specs.Nodes.{parts_at, part_at, spot_of, LieWithin}
+use Rattle.reassembly.specs.Nodes.{parts_at, part_at, LieWithin}
 use Rattle.reassembly.specs.Parts.{beyond, needs_segment, stored_of, waiting_of, Part}
-use Rattle.reassembly.specs.declared.spot.Spot.{Spot}
+use Rattle.segment_tree.specs.declared.spot.Spot.{Spot}
 
 pub drop_nil : (k : ℕ) → drop {A = ℕ} k [] ≡ []
 drop_nil zero = refl
@@ -107,33 +106,33 @@ beyond_lie bytes k (p ∷ parts) lie = by (nat_lt k p.first) (beyond_lie bytes k
 pub waiting_lie : (bytes : List ℕ) (depth : ℕ) (parts : List Part) → PartsLieIn bytes parts → PartsLieIn bytes (waiting_of depth parts)
 waiting_lie bytes depth parts lie = beyond_lie bytes _ (stored_of depth parts) (stored_lie bytes depth parts lie)
 
--- nodes that stand where parts do have the bytes of these parts
-pub spots_have : (bytes : List ℕ) (nodes : List Node) (parts : List Part) → map spot_of nodes ≡ map spot_in parts → PartsLieIn bytes parts
-    → parts_at bytes nodes ≡ parts
+-- what stands where parts do has the bytes of these parts
+pub spots_have : (bytes : List ℕ) (spots : List Spot) (parts : List Part) → spots ≡ map spot_in parts → PartsLieIn bytes parts
+    → parts_at bytes spots ≡ parts
 spots_have bytes [] [] same lie = refl
 spots_have bytes [] (p ∷ parts) same lie = cc
-spots_have bytes (n ∷ nodes) [] same lie = cc
-spots_have bytes (n ∷ nodes) (p ∷ parts) same lie =
-    let head : spot_of n ≡ spot_in p = cc in
-    let tail : map spot_of nodes ≡ map spot_in parts = cc in
-    let number : n.no ≡ p.no = ap (λ (s : Spot). s.no) head in
-    let first : n.first ≡ p.first = ap (λ (s : Spot). s.first) head in
-    let at : n.at ≡ p.at = ap (λ (s : Spot). s.at) head in
-    let len : n.len ≡ length p.bytes = ap (λ (s : Spot). s.len) head in
-    let have : slice_range bytes n.at (n.at + n.len) ≡ p.bytes = ap (λ (s : Spot). slice_range bytes s.at (s.at + s.len)) head ∙ lie.0.same in
-    let one : part_at bytes n ≡ p = λ i. record { no = number i; first = first i; at = at i; bytes = have i } in
-    let rest = spots_have bytes nodes parts tail lie.1 in
+spots_have bytes (s ∷ spots) [] same lie = cc
+spots_have bytes (s ∷ spots) (p ∷ parts) same lie =
+    let head : s ≡ spot_in p = cc in
+    let tail : spots ≡ map spot_in parts = cc in
+    let number : s.no ≡ p.no = ap (λ (x : Spot). x.no) head in
+    let first : s.first ≡ p.first = ap (λ (x : Spot). x.first) head in
+    let at : s.at ≡ p.at = ap (λ (x : Spot). x.at) head in
+    let len : s.len ≡ length p.bytes = ap (λ (x : Spot). x.len) head in
+    let have : slice_range bytes s.at (s.at + s.len) ≡ p.bytes = ap (λ (x : Spot). slice_range bytes x.at (x.at + x.len)) head ∙ lie.0.same in
+    let one : part_at bytes s ≡ p = λ i. record { no = number i; first = first i; at = at i; bytes = have i } in
+    let rest = spots_have bytes spots parts tail lie.1 in
     λ i. one i ∷ rest i
 
-pub spots_within : (bytes : List ℕ) (nodes : List Node) (parts : List Part) → map spot_of nodes ≡ map spot_in parts → PartsLieIn bytes parts
-    → LieWithin (length bytes) nodes
+pub spots_within : (bytes : List ℕ) (spots : List Spot) (parts : List Part) → spots ≡ map spot_in parts → PartsLieIn bytes parts
+    → LieWithin (length bytes) spots
 spots_within bytes [] [] same lie = tt
 spots_within bytes [] (p ∷ parts) same lie = cc
-spots_within bytes (n ∷ nodes) [] same lie = cc
-spots_within bytes (n ∷ nodes) (p ∷ parts) same lie =
-    let head : spot_of n ≡ spot_in p = cc in
-    let tail : map spot_of nodes ≡ map spot_in parts = cc in
-    let at : n.at ≡ p.at = ap (λ (s : Spot). s.at) head in
-    let len : n.len ≡ length p.bytes = ap (λ (s : Spot). s.len) head in
+spots_within bytes (s ∷ spots) [] same lie = cc
+spots_within bytes (s ∷ spots) (p ∷ parts) same lie =
+    let head : s ≡ spot_in p = cc in
+    let tail : spots ≡ map spot_in parts = cc in
+    let at : s.at ≡ p.at = ap (λ (x : Spot). x.at) head in
+    let len : s.len ≡ length p.bytes = ap (λ (x : Spot). x.len) head in
     let w = lie.0.within in
-    (omega (arith, at, len, w), spots_within bytes nodes parts tail lie.1)
+    (omega (arith, at, len, w), spots_within bytes spots parts tail lie.1)

@@ -5,13 +5,11 @@ use Rattle.std.specs.Prelude.{nat_eq, nat_lt, filter}
 use Rattle.std.specs.Option.{option_or, unwrap_or}
 use Rattle.sha1.specs.Sha1.{Holds}
 use Rattle.sha1.specs.declared.Sha1.{Sha1}
-use Rattle.suri_base.specs.Node.{Node}
 use Rattle.suri_base.specs.declared.stream.Offer.TheVariants.{InOrder, Nothing, NeedsSegment, Stopped}
 use Rattle.reassembly.specs.Kept.{Asks, KeptStream, Rises, Stands, Tells, newest_of, spot_in, waiting_among}
 use Rattle.reassembly.specs.Members.{Member, base_of, before_stop, first_of, offer_of, part_of, parts_of, sequence_of, sets_base, stream_of}
-use Rattle.reassembly.specs.Nodes.{spot_of}
 use Rattle.reassembly.specs.Parts.{answer_to, beyond, bytes_from, byte_at, frontier_of, waiting_of, Part}
-use Rattle.reassembly.specs.declared.spot.Spot.{Spot}
+use Rattle.segment_tree.specs.declared.spot.Spot.{Spot}
 use Rattle.reassembly.proofs.Steps.{Far, needs_far, needs_stream, needs_waiting, nothing_old, nothing_stream, nothing_waiting}
 use Rattle.reassembly.proofs.Steps.{order_frontier, order_near, order_stream, order_waiting}
 use Rattle.reassembly.proofs.Turns.{empty_old, empty_part, no_payload, same_stream, same_waiting, seen_from}
@@ -51,23 +49,23 @@ stands_of kept members none settled rises o = record {
   settled = settled;
 }
 
--- nodes that begin beyond an offset are those of the parts that do
-pub spots_beyond : (f : ℕ) (nodes : List Node) (parts : List Part) → map spot_of nodes ≡ map spot_in parts
-    → map spot_of (filter (λ node. nat_lt f node.first) nodes) ≡ map spot_in (beyond f parts)
+-- what begins beyond an offset is what the parts bring that do
+pub spots_beyond : (f : ℕ) (spots : List Spot) (parts : List Part) → spots ≡ map spot_in parts
+    → filter (λ spot. nat_lt f spot.first) spots ≡ map spot_in (beyond f parts)
 spots_beyond f [] [] same = refl
 spots_beyond f [] (p ∷ parts) same = cc
-spots_beyond f (n ∷ nodes) [] same = cc
-spots_beyond f (n ∷ nodes) (p ∷ parts) same =
-    let head : spot_of n ≡ spot_in p = cc in
-    let tail : map spot_of nodes ≡ map spot_in parts = cc in
-    let first : n.first ≡ p.first = ap (λ (s : Spot). s.first) head in
-    by (spots_beyond f nodes parts tail) head (nat_lt f p.first) refl (ap (nat_lt f) first)
+spots_beyond f (s ∷ spots) [] same = cc
+spots_beyond f (s ∷ spots) (p ∷ parts) same =
+    let head : s ≡ spot_in p = cc in
+    let tail : spots ≡ map spot_in parts = cc in
+    let first : s.first ≡ p.first = ap (λ (x : Spot). x.first) head in
+    by (spots_beyond f spots parts tail) head (nat_lt f p.first) refl (ap (nat_lt f) first)
   where
-    by : map spot_of (filter (λ node. nat_lt f node.first) nodes) ≡ map spot_in (beyond f parts) → spot_of n ≡ spot_in p → (t : Bool)
-        → nat_lt f p.first ≡ t → nat_lt f n.first ≡ nat_lt f p.first
-        → map spot_of (filter (λ node. nat_lt f node.first) (n ∷ nodes)) ≡ map spot_in (beyond f (p ∷ parts))
-    by again head true is same = let at_n : nat_lt f n.first ≡ true = same ∙ is in rw (at_n, is) (λ i. head i ∷ again i)
-    by again head false is same = let at_n : nat_lt f n.first ≡ false = same ∙ is in rw (at_n, is) again
+    by : filter (λ spot. nat_lt f spot.first) spots ≡ map spot_in (beyond f parts) → s ≡ spot_in p → (t : Bool)
+        → nat_lt f p.first ≡ t → nat_lt f s.first ≡ nat_lt f p.first
+        → filter (λ spot. nat_lt f spot.first) (s ∷ spots) ≡ map spot_in (beyond f (p ∷ parts))
+    by again head true is same = let at_s : nat_lt f s.first ≡ true = same ∙ is in rw (at_s, is) (λ i. head i ∷ again i)
+    by again head false is same = let at_s : nat_lt f s.first ≡ false = same ∙ is in rw (at_s, is) again
 
 not_zero : (n : ℕ) → 0 < n → nat_eq n 0 ≡ false
 not_zero n h = grind arith
@@ -154,16 +152,16 @@ module _ (kept : KeptStream) (m : Member) (members : List Member) (none : kept.s
         waiting = seen.waiting ∙ ap (map spot_in) (sym (nothing_waiting kept.depth ps p old));
       })
 
-  pub stands_order : (b : Option ℕ) (frontier : ℕ) (hasher : Sha1) (nodes : List Node) (waiting : List Spot) (freed : ℕ) → b ≡ base_of (m ∷ members)
+  pub stands_order : (b : Option ℕ) (frontier : ℕ) (hasher : Sha1) (waiting : List Spot) (freed : ℕ) → b ≡ base_of (m ∷ members)
       → kept.asked ≡ None
       → answer_to kept.depth (seen_from kept.depth m members) (brought kept.depth m members) ≡ InOrder
       → frontier ≡ kept.frontier + length
       (bytes_from (byte_at (brought kept.depth m members ∷ seen_from kept.depth m members)) kept.frontier (kept.depth - kept.frontier))
       → ((l : List ℕ) → Holds kept.hasher l
       → Holds hasher (l ++ bytes_from (byte_at (brought kept.depth m members ∷ seen_from kept.depth m members)) kept.frontier (kept.depth - kept.frontier)))
-      → map spot_of nodes ≡ kept.waiting → waiting ≡ map spot_of (filter (λ node. nat_lt frontier node.first) nodes)
+      → waiting ≡ filter (λ spot. nat_lt frontier spot.first) kept.waiting
       → Stands (record kept { base = b; frontier = frontier; hasher = hasher; waiting = waiting; freed = freed }) (m ∷ members)
-  stands_order b frontier hasher nodes waiting freed is settled answer moved taken were are =
+  stands_order b frontier hasher waiting freed is settled answer moved taken are =
       let ps = seen_from kept.depth m members in
       let p = brought kept.depth m members in
       let near = order_near kept.depth ps p answer in
@@ -176,7 +174,7 @@ module _ (kept : KeptStream) (m : Member) (members : List Member) (none : kept.s
         base = is;
         frontier = front;
         digest = subst (Holds hasher) (sym stream) digest;
-        waiting = are ∙ (spots_beyond frontier nodes (waiting_of kept.depth ps) (were ∙ seen.waiting)
+        waiting = are ∙ (spots_beyond frontier kept.waiting (waiting_of kept.depth ps) seen.waiting
             ∙ (ap (λ (f : ℕ). map spot_in (beyond f (waiting_of kept.depth ps))) front ∙ ap (map spot_in) (sym (order_waiting kept.depth ps p near))));
       })
 

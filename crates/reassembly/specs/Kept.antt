@@ -6,7 +6,7 @@ use Rattle.sha1.specs.declared.Sha1.{Sha1}
 use Rattle.suri_base.specs.declared.stream.Offer.TheVariants.{NeedsSegment}
 use Rattle.reassembly.specs.Members.{Member, base_of, before_stop, offer_of, part_of, parts_of, stream_of}
 use Rattle.reassembly.specs.Parts.{waiting_of, Part}
-use Rattle.reassembly.specs.declared.spot.Spot.{Spot}
+use Rattle.segment_tree.specs.declared.spot.Spot.{Spot}
 
 -- what contracts see of a stream: its setting, and what it keeps. What waits stands with the newest first; of the nodes that
 -- no longer wait only their number is told

@@ -7,11 +7,10 @@
 
 mod chain;
 mod offset;
-mod spot;
 mod stream;
 mod stretch;
 #[cfg(test)]
 mod tests;
 
-pub use spot::Spot;
+pub use segment_tree::Spot;
 pub use stream::Stream;

@@ -7,8 +7,8 @@ ghost use Rattle.reassembly.specs.Members.{Member, line_of, member, offer_of};
 
 use crate::chain::{move_all, release};
 use crate::offset::{opening, placed, sequence};
-use crate::spot::Spot;
 use crate::stretch::{answer, take_stretches};
+use segment_tree::{SegmentTree, Spot};
 use sha1::Sha1;
 use std::marker::Model;
 use std::mem;
@@ -28,8 +28,8 @@ pub struct Stream {
     // How many bytes came without a gap. They were digested.
     frontier: u32,
     hasher: Sha1,
-    // The nodes of members that begin beyond the frontier, the newest first.
-    waiting: Segments,
+    // The nodes of members that begin beyond the frontier.
+    waiting: SegmentTree,
     // The nodes that no longer wait.
     freed: Segments,
     // The frame at which it was stopped, or 0.
@@ -43,19 +43,24 @@ impl Model for Stream {
 
     ghost Value = { KeptStream };
 
-    ghost use Rattle.std.specs.Prelude.{length, map};
-    ghost use Rattle.reassembly.specs.Nodes.{spot_of};
+    ghost use Rattle.std.specs.Prelude.{length};
+    ghost use Rattle.segment_tree.specs.Order.{newest_first};
 
     ghost view = { λ s. record {
       depth = s.depth;
       base = s.base;
       frontier = s.frontier;
       hasher = s.hasher;
-      waiting = map spot_of s.waiting;
+      waiting = newest_first s.waiting;
       freed = length s.freed;
       stop = s.stop;
       asked = s.asked;
     } };
+
+    ghost use Rattle.std.specs.Option.{IfSome};
+    ghost use Rattle.reassembly.specs.Nodes.{MayWait};
+
+    ghost invariant = { λ s. IfSome s.asked (λ spot. MayWait s.waiting spot) };
 }
 
 impl Stream {
@@ -69,7 +74,7 @@ impl Stream {
             base: None,
             frontier: 0,
             hasher: Sha1::new(),
-            waiting: Segments::new(),
+            waiting: SegmentTree::new(),
             freed: Segments::new(),
             stop: 0,
             asked: None,
@@ -176,7 +181,7 @@ impl Stream {
         if let Some(spot) = self.asked {
             self.asked = None;
             spot.write(&mut node);
-            self.waiting.push(node);
+            self.waiting.insert(node);
         }
     }
 
@@ -191,7 +196,7 @@ impl Stream {
         if let Some(spot) = self.asked {
             self.asked = None;
             self.stop = spot.no;
-            let waiting = mem::replace(&mut self.waiting, Segments::new());
+            let waiting = mem::replace(&mut self.waiting, SegmentTree::new());
             move_all(&mut self.freed, waiting);
         }
     }
@@ -210,7 +215,7 @@ impl Stream {
         ensures kept { self.new ≡ record self.old { waiting = []; freed = 0 } }
     {
         let mut nodes = mem::replace(&mut self.freed, Segments::new());
-        let waiting = mem::replace(&mut self.waiting, Segments::new());
+        let waiting = mem::replace(&mut self.waiting, SegmentTree::new());
         move_all(&mut nodes, waiting);
         nodes
     }

@@ -1,105 +1,81 @@
 //! The bytes that come next: stretches of the packet at hand and of what waits.
-ghost use Rattle.std.specs.Prelude.{ℕ, ◌≡◌, ◌+◌, ◌-◌, ◌^◌, ◌<◌, ◌≤◌, ◌↔◌, IsTrue, ◌++◌, ◌∷◌, [], List, length};
+ghost use Rattle.std.specs.Prelude.{ℕ, ◌≡◌, ◌+◌, ◌-◌, ◌^◌, ◌<◌, ◌≤◌, ◌++◌, ◌∷◌, List, length, slice_range, None};
 ghost use Rattle.std.specs.Option.{option_copied};
+ghost use Rattle.segment_tree.specs.Order.{end_of, newest_first};
 ghost use Rattle.reassembly.specs.Nodes.{parts_at, LieWithin};
 ghost use Rattle.reassembly.specs.Parts.{answer_to, bytes_from, byte_at, frontier_of, part, waiting_of, EndsBelow, Part};
-ghost use Rattle.reassembly.specs.Stretches.{AreCovered, IsStretch};
+ghost use Rattle.reassembly.specs.Stretches.{IsStretch};
 ghost use Rattle.sha1.specs.Sha1.{Holds};
 
-use crate::spot::Spot;
+use segment_tree::{SegmentTree, Spot};
 use sha1::Sha1;
-use suri_base::{Offer, Segments};
+use suri_base::Offer;
 
-// The stretch from an offset on, once bytes that came earlier are seen too: theirs where they have the offset, else
-// the stretch before, up to where they begin.
-fn with_earlier<'a>(
-    newer: Option<&'a [u8]>,
-    first: u32,
-    bytes: &'a [u8],
-    at: u32,
-) -> Option<&'a [u8]>
-    ensures { (seen : List Part) (no place : ℕ) → IsStretch seen at (option_copied newer.entry)
-        → IsStretch (seen ++ part no first place bytes.now ∷ []) at (option_copied result) }
+// The bytes of a node from one offset on, below another.
+fn in_node(spot: Spot, at: u32, end: u32, bytes: &[u8]) -> &[u8]
+    requires begins { spot.first ≤ at }
+    requires some { at ≤ end }
+    requires ends { end ≤ end_of spot }
+    requires within { spot.at + spot.len ≤ length bytes.now }
+    ensures { result.now ≡ slice_range bytes.now (spot.at + (at - spot.first)) (spot.at + (end - spot.first)) }
 {
-    if first <= at {
-        let skip = (at - first) as usize;
-        if skip < bytes.len() {
-            Some(&bytes[skip..])
-        } else {
-            newer
-        }
-    } else {
-        let gap = (first - at) as usize;
-        match newer {
-            Some(stretch) => Some(&stretch[..gap.min(stretch.len())]),
-            None => None,
-        }
-    }
+    let place = spot.at as usize;
+    &bytes[place + (at - spot.first) as usize..place + (end - spot.first) as usize]
 }
 
-// The stretch from an offset on that a packet, and nodes that came before it, have there. One walk from the newest node
-// to the oldest.
+// The stretch of a packet from one offset on, below another, where no part that came before it has a byte.
+fn in_packet(first: u32, packet: &[u8], at: u32, end: u32) -> Option<&[u8]>
+    requires fits { first + length packet.now < 2 ^ 32 }
+    requires on { at < 2 ^ 32 - 1 → at < end }
+    ensures { (older : List Part) → byte_at older at ≡ None → ((k : ℕ) → at ≤ k → k < end → byte_at older k ≡ None)
+        → IsStretch (part 0 first 0 packet.now ∷ older) at (option_copied result) }
+{
+    if at < first {
+        return None;
+    }
+    let skip = (at - first) as usize;
+    if packet.len() <= skip {
+        return None;
+    }
+    let rest = &packet[skip..];
+    Some(&rest[..rest.len().min((end - at) as usize)])
+}
+
+// The stretch from an offset on that a packet, and nodes that came before it, have there.
 fn stretch_at<'a>(
-    waiting: &Segments,
+    waiting: &SegmentTree,
     at: u32,
     first: u32,
     packet: &'a [u8],
     bytes: &'a [u8],
 ) -> Option<&'a [u8]>
-    requires { LieWithin (length bytes.now) waiting.now }
-    ensures { IsStretch (part 0 first 0 packet.now ∷ parts_at bytes.now waiting.now) at (option_copied result) }
+    requires within { LieWithin (length bytes.now) (newest_first waiting.now) }
+    requires fits { first + length packet.now < 2 ^ 32 }
+    ensures { IsStretch (part 0 first 0 packet.now ∷ parts_at bytes.now (newest_first waiting.now)) at (option_copied result) }
 {
-    let mut stretch = with_earlier(None, first, packet, at);
-    let mut node = waiting.front();
-    while let Some(segment) = node {
-        let spot = Spot::of(segment);
-        let place = spot.at as usize;
-        stretch = with_earlier(
-            stretch,
-            spot.first,
-            &bytes[place..place + spot.len as usize],
-            at,
-        );
-        node = segment.next();
+    let run = waiting.run_at(at);
+    match run.spot {
+        Some(spot) => Some(in_node(spot, at, run.end, bytes)),
+        None => in_packet(first, packet, at, run.end),
     }
-    stretch
-}
-
-// Whether nodes cover each offset from one on, below another.
-fn is_covered(waiting: &Segments, from: u32, end: u32, bytes: &[u8]) -> bool
-    requires { LieWithin (length bytes.now) waiting.now }
-    ensures { IsTrue result ↔ AreCovered (parts_at bytes.now waiting.now) from end }
-{
-    let mut at = from;
-    while at < end {
-        match stretch_at(waiting, at, 0, &bytes[..0], bytes) {
-            None => return false,
-            Some(stretch) => {
-                if stretch.len() >= (end - at) as usize {
-                    return true;
-                }
-                at += stretch.len() as u32;
-            }
-        }
-    }
-    true
 }
 
 /// The answer to a packet, which has bytes from an offset on, by what waits and by the frontier.
 pub(crate) fn answer(
-    waiting: &Segments,
+    waiting: &SegmentTree,
     frontier: u32,
     first: u32,
     packet: &[u8],
     bytes: &[u8],
 ) -> Offer
-    requires within { LieWithin (length bytes.now) waiting.now }
+    requires within { LieWithin (length bytes.now) (newest_first waiting.now) }
     requires fits { first + length packet.now < 2 ^ 32 }
     ensures { (depth : ℕ) (parts : List Part) (number place : ℕ) → EndsBelow depth parts → frontier ≡ frontier_of depth parts
-        → parts_at bytes.now waiting.now ≡ waiting_of depth parts → result ≡ answer_to depth parts (part number first place packet.now) }
+        → parts_at bytes.now (newest_first waiting.now) ≡ waiting_of depth parts
+        → result ≡ answer_to depth parts (part number first place packet.now) }
 {
     let end = first + packet.len() as u32;
-    if is_covered(waiting, first.max(frontier), end, bytes) {
+    if waiting.covers(first.max(frontier), end) {
         Offer::Nothing
     } else if first <= frontier {
         Offer::InOrder
@@ -112,20 +88,21 @@ pub(crate) fn answer(
 /// offset that none of them covers.
 pub(crate) fn take_stretches(
     hasher: &mut Sha1,
-    waiting: &Segments,
+    waiting: &SegmentTree,
     frontier: u32,
     depth: u32,
     first: u32,
     packet: &[u8],
     bytes: &[u8],
 ) -> u32
-    requires within { LieWithin (length bytes.now) waiting.now }
-    requires below { EndsBelow depth (part 0 first 0 packet.now ∷ parts_at bytes.now waiting.now) }
+    requires within { LieWithin (length bytes.now) (newest_first waiting.now) }
+    requires fits { first + length packet.now < 2 ^ 32 }
+    requires below { EndsBelow depth (part 0 first 0 packet.now ∷ parts_at bytes.now (newest_first waiting.now)) }
     requires frontier { frontier ≤ depth }
     ensures frontier { result ≡ frontier
-        + length (bytes_from (byte_at (part 0 first 0 packet.now ∷ parts_at bytes.now waiting.now)) frontier (depth - frontier)) }
+        + length (bytes_from (byte_at (part 0 first 0 packet.now ∷ parts_at bytes.now (newest_first waiting.now))) frontier (depth - frontier)) }
     ensures taken { (m : List ℕ) → Holds hasher.old m
-        → Holds hasher.new (m ++ bytes_from (byte_at (part 0 first 0 packet.now ∷ parts_at bytes.now waiting.now)) frontier (depth - frontier)) }
+        → Holds hasher.new (m ++ bytes_from (byte_at (part 0 first 0 packet.now ∷ parts_at bytes.now (newest_first waiting.now))) frontier (depth - frontier)) }
 {
     let mut at = frontier;
     while let Some(stretch) = stretch_at(waiting, at, first, packet, bytes) {

@@ -160,6 +160,11 @@ const THOUSAND: [u8; 20] = [
     0xc2, 0x4a, 0xc3, 0x7b,
 ];
 
+const SIXTY_THOUSAND: [u8; 20] = [
+    0xc4, 0x79, 0x41, 0xbc, 0x8d, 0xc8, 0x41, 0x19, 0x14, 0xfc, 0x1b, 0x22, 0x81, 0x33, 0xfd, 0x5e,
+    0x98, 0x9b, 0xa6, 0xc6,
+];
+
 // Offers a segment, and settles it where it needs a node: it is stored in this one, or is the stop.
 fn feed(
     stream: &mut Stream,
@@ -212,7 +217,7 @@ fn replayed(
     rows: &[Row],
     stop: u32,
 ) -> Result<Stream, NoMemory> {
-    assert!(rt; rows.len() < 10_000);
+    assert!(rt; rows.len() < 100_000);
     let mut stream = Stream::blank(depth);
     let mut no = 0;
     while (no as usize) < rows.len() {
@@ -232,7 +237,7 @@ fn count(rt: &impl Abort, mut nodes: Segments) -> u32 {
     let mut count = 0;
     while let Some(node) = nodes.pop() {
         drop(node);
-        assert!(rt; count < 10_000);
+        assert!(rt; count < 100_000);
         count += 1;
     }
     count
@@ -294,27 +299,26 @@ fn small_streams(rt: HostRuntime) -> Result<(), Fail> {
     Ok(())
 }
 
-// A thousand segments of one byte, the last of them first: all but one wait.
+// Segments of one byte, the last of them first: all but one wait.
 #[test]
-fn a_thousand_segments(rt: HostRuntime) -> Result<(), Fail> {
-    let mut bytes = Vec::new(rt.alloc());
-    let mut rows = Vec::new(rt.alloc());
-    rows.push((4_294_966_795, SYN, 0, 0, Nothing))?;
-    for place in 0..1000u32 {
-        bytes.push((place % 251) as u8)?;
-        let back = 999 - place;
-        let answer = if back == 0 { InOrder } else { NeedsSegment };
-        rows.push((
-            4_294_966_796u32.wrapping_add(back),
-            PSH_ACK,
-            back,
-            1,
-            answer,
-        ))?;
+fn many_segments(rt: HostRuntime) -> Result<(), Fail> {
+    for (many, base, digest) in [
+        (1000, 4_294_966_796, THOUSAND),
+        (60_000, 1000, SIXTY_THOUSAND),
+    ] {
+        let mut bytes = Vec::new(rt.alloc());
+        let mut rows = Vec::new(rt.alloc());
+        rows.push((u32::wrapping_sub(base, 1), SYN, 0, 0, Nothing))?;
+        for place in 0..many {
+            bytes.push((place % 251) as u8)?;
+            let back = many - 1 - place;
+            let answer = if back == 0 { InOrder } else { NeedsSegment };
+            rows.push((u32::wrapping_add(base, back), PSH_ACK, back, 1, answer))?;
+        }
+        let mut stream = replayed(&rt, rt.alloc(), DEPTH, &bytes, &rows, 0)?;
+        assert_eq!(rt; count(&rt, stream.freed()), many - 1);
+        assert!(rt; stream.all().is_empty());
+        assert_eq!(rt; stream.end(), line(many, digest, 0));
     }
-    let mut stream = replayed(&rt, rt.alloc(), DEPTH, &bytes, &rows, 0)?;
-    assert_eq!(rt; count(&rt, stream.freed()), 999);
-    assert!(rt; stream.all().is_empty());
-    assert_eq!(rt; stream.end(), line(1000, THOUSAND, 0));
     Ok(())
 }

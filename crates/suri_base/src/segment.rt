@@ -19,9 +19,9 @@ pub struct Segment {
     pub at: u32,
     /// How many bytes there are.
     pub len: u32,
-    /// The greatest end of the nodes at and below it, where nodes stand in a tree; else 0.
+    /// The greatest end of the nodes at and below it, where nodes stand in a tree; else without meaning.
     pub reach: u32,
-    /// The height of the tree below it, where nodes stand in a tree; else 0.
+    /// The height of the tree below it, where nodes stand in a tree; else without meaning.
     pub height: u8,
     /// The nodes before it, where nodes stand in a tree; else none.
     pub less: Option<Box<Segment>>,

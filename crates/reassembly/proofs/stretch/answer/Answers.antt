@@ -1,10 +1,12 @@
 use Rattle.std.proofs.Common.{◌≡◌, ℕ, ◌+◌, Bool, true, false, List, cond, length, max, refl, sym, ap, ◌∙◌, subst, arith}
 use Rattle.std.specs.Prelude.{IsTrue, ◌↔◌, nat_le}
 use Rattle.suri_base.specs.declared.stream.Offer.TheVariants.{InOrder, Nothing, NeedsSegment}
+use Rattle.segment_tree.specs.Order.{newest_first}
 use Rattle.reassembly.specs.Nodes.{parts_at}
 use Rattle.reassembly.specs.Parts.{answer_to, frontier_of, is_old, part, waiting_of, EndsBelow, Part}
 use Rattle.reassembly.specs.Stretches.{AreCovered}
 use Rattle.reassembly.proofs.Answering.{old_is}
+use Rattle.reassembly.proofs.ByNumber.{covered_both}
 use Rattle.reassembly.proofs.stretch.answer.Goals as goal
 
 -- the answer, by the two tests
@@ -20,27 +22,27 @@ by_tests depth parts p waits frontier from covered ends is_frontier is_waits is_
     ap (λ (b : Bool). cond b Nothing (cond (nat_le p.first (frontier_of depth parts)) InOrder NeedsSegment)) old
     ∙ ap (λ (f : ℕ). cond covered Nothing (cond (nat_le p.first f) InOrder NeedsSegment)) (sym is_frontier)
 
-pub returns-then-is_covered : goal.returns-then-is_covered
-returns-then-is_covered c = λ depth parts number place ends is_frontier is_waits.
+pub returns-then-covers : goal.returns-then-covers
+returns-then-covers c = λ depth parts number place ends is_frontier is_waits.
     sym (by_tests depth parts (part number c.args.first place c.args.packet.now)
-    (parts_at c.args.bytes.now c.args.waiting.now) c.args.frontier c.max.result c.is_covered.result ends is_frontier is_waits
-    c.max.ensures c.is_covered.ensures
-    ∙ ap (λ (b : Bool). cond b Nothing (cond (nat_le c.args.first c.args.frontier) InOrder NeedsSegment)) c.if-is_covered.true)
+    (parts_at c.args.bytes.now (newest_first c.args.waiting.now)) c.args.frontier c.max.result c.covers.result ends is_frontier is_waits
+    c.max.ensures (covered_both c.args.bytes.now c.args.waiting.now c.requires.within c.covers.result c.max.result _ c.covers.ensures)
+    ∙ ap (λ (b : Bool). cond b Nothing (cond (nat_le c.args.first c.args.frontier) InOrder NeedsSegment)) c.if-covers.true)
 
 pub returns-then-first-frontier : goal.returns-then-first-frontier
 returns-then-first-frontier c = λ depth parts number place ends is_frontier is_waits.
     let near : nat_le c.args.first c.args.frontier ≡ true = let h = c.if-first-frontier.true in grind arith in
     sym (by_tests depth parts (part number c.args.first place c.args.packet.now)
-    (parts_at c.args.bytes.now c.args.waiting.now) c.args.frontier c.max.result c.is_covered.result ends is_frontier is_waits
-    c.max.ensures c.is_covered.ensures
-    ∙ (ap (λ (b : Bool). cond b Nothing (cond (nat_le c.args.first c.args.frontier) InOrder NeedsSegment)) c.if-is_covered.false
+    (parts_at c.args.bytes.now (newest_first c.args.waiting.now)) c.args.frontier c.max.result c.covers.result ends is_frontier is_waits
+    c.max.ensures (covered_both c.args.bytes.now c.args.waiting.now c.requires.within c.covers.result c.max.result _ c.covers.ensures)
+    ∙ (ap (λ (b : Bool). cond b Nothing (cond (nat_le c.args.first c.args.frontier) InOrder NeedsSegment)) c.if-covers.false
     ∙ ap (λ (b : Bool). cond b InOrder NeedsSegment) near))
 
 pub returns-else-first-frontier : goal.returns-else-first-frontier
 returns-else-first-frontier c = λ depth parts number place ends is_frontier is_waits.
     let far : nat_le c.args.first c.args.frontier ≡ false = let h = c.if-first-frontier.false in grind arith in
     sym (by_tests depth parts (part number c.args.first place c.args.packet.now)
-    (parts_at c.args.bytes.now c.args.waiting.now) c.args.frontier c.max.result c.is_covered.result ends is_frontier is_waits
-    c.max.ensures c.is_covered.ensures
-    ∙ (ap (λ (b : Bool). cond b Nothing (cond (nat_le c.args.first c.args.frontier) InOrder NeedsSegment)) c.if-is_covered.false
+    (parts_at c.args.bytes.now (newest_first c.args.waiting.now)) c.args.frontier c.max.result c.covers.result ends is_frontier is_waits
+    c.max.ensures (covered_both c.args.bytes.now c.args.waiting.now c.requires.within c.covers.result c.max.result _ c.covers.ensures)
+    ∙ (ap (λ (b : Bool). cond b Nothing (cond (nat_le c.args.first c.args.frontier) InOrder NeedsSegment)) c.if-covers.false
     ∙ ap (λ (b : Bool). cond b InOrder NeedsSegment) far))

@@ -1,38 +1,49 @@
-use Rattle.std.proofs.Common.{◌++◌, ◌∷◌, [], List, length, ◌≡◌, ◌∙◌, sym, ap, subst, take, drop, ◌+◌, ◌-◌, refl, append_assoc}
-use Rattle.reassembly.specs.declared.spot.Spot.{Spot}
-use Rattle.std.specs.Option.{option_copied}
-use Rattle.suri_base.specs.Chain.{nodes_at, node_of, nodes_from}
-use Rattle.suri_base.specs.Node.{Node}
-use Rattle.reassembly.specs.Nodes.{parts_at, part_at, LieWithin}
+use Rattle.std.proofs.Common.{◌≡◌, ℕ, ◌+◌, ◌<◌, ◌≤◌, List, ◌∷◌, length, sym, ap, ◌∙◌, subst, arith, Option, Some}
+use Rattle.std.specs.Prelude.{MatchOption}
+use Rattle.segment_tree.specs.declared.spot.Spot.{Spot}
+use Rattle.segment_tree.specs.Order.{end_of, newest_first}
+use Rattle.segment_tree.specs.Reads.{earliest}
+use Rattle.reassembly.specs.Nodes.{parts_at}
 use Rattle.reassembly.specs.Parts.{part}
 use Rattle.reassembly.specs.Stretches.{IsStretch}
+use Rattle.reassembly.proofs.ByNumber.{byte_earliest, byte_of, node_stretch, run_lies}
 use Rattle.reassembly.proofs.stretch.stretch_at.Goals as goal
+use Rattle.reassembly.proofs.stretch.stretch_at.Goals.{In-Some}
 
-pub loop-node-init : goal.loop-node-init
-loop-node-init c =
-    let first = part 0 c.args.first 0 c.args.packet.now in
-    let same : nodes_at (option_copied c.front-node.result) ≡ c.args.waiting.now = c.front-node.ensures in (
-      first ∷ [],
-      ap (λ (l : List Node). first ∷ parts_at c.args.bytes.now l) same,
-      c.with_earlier-stretch.ensures [] 0 0 refl,
-      subst
-          (LieWithin (length c.args.bytes.now)) (sym same) c.requires,
-    )
+-- the node that was found is the earliest up to where the run ends
+module _ (c : In-Some) where
+  on : c.args.at < c.run_at-run.result.end
+  on = subst (λ (o : Option Spot). MatchOption o (c.args.at < 4294967295 → c.args.at < c.run_at-run.result.end) (λ s. c.args.at < c.run_at-run.result.end)) c.in-Some.is c.run_at-run.ensures.on
 
-pub loop-node-preserved : goal.loop-node-preserved
-loop-node-preserved c =
-    let seen = c.loop-node.invariant.0 in
+  same : (k : ℕ) → c.args.at ≤ k → k < c.run_at-run.result.end → earliest k c.args.waiting.now ≡ Some c.in-Some.spot
+  same k later below = c.run_at-run.ensures.same k later below ∙ c.in-Some.is
+
+  lies : (c.in-Some.spot.first ≤ c.args.at) × (c.run_at-run.result.end ≤ end_of c.in-Some.spot) × (c.in-Some.spot.at + c.in-Some.spot.len ≤ length c.args.bytes.now)
+  lies = run_lies c.args.bytes.now c.args.waiting.now c.requires.within c.args.at c.run_at-run.result.end c.in-Some.spot on same
+
+pub in_node-requires-clause-begins : goal.in_node-requires-clause-begins
+in_node-requires-clause-begins c = (lies c).0
+
+pub in_node-requires-clause-some : goal.in_node-requires-clause-some
+in_node-requires-clause-some c = let h = on c in omega (arith, h)
+
+pub in_node-requires-clause-ends : goal.in_node-requires-clause-ends
+in_node-requires-clause-ends c = (lies c).1
+
+pub in_node-requires-clause-within : goal.in_node-requires-clause-within
+in_node-requires-clause-within c = (lies c).2
+
+pub returns-in-Some : goal.returns-in-Some
+returns-in-Some c =
+    let at = (goal.at.returns-in-Some c).In-Some in
+    let p = part 0 c.args.first 0 c.args.packet.now in
+    subst (λ (l : List ℕ). IsStretch (p ∷ parts_at c.args.bytes.now (newest_first c.args.waiting.now)) c.args.at (Some l)) (sym c.in_node.ensures)
+    (node_stretch c.args.bytes.now c.args.waiting.now c.requires.within p c.args.at c.run_at-run.result.end c.in-Some.spot (on at) (same at))
+
+pub returns-in-None : goal.returns-in-None
+returns-in-None c =
     let bytes = c.args.bytes.now in
-    let segment = c.in-Some.segment.now in
-    let node = node_of segment in
-    let rest = nodes_at (option_copied c.next-node.result) in
-    let split : nodes_from segment ≡ node ∷ rest = c.next-node.ensures in
-    let all : nodes_at (option_copied c.loop-node.node) ≡ node ∷ rest = ap (λ o. nodes_at (option_copied o)) c.in-Some.is ∙ split in
-    let whole = subst (λ (l : List Node). seen ++ parts_at bytes l
-    ≡ part 0 c.args.first 0 c.args.packet.now ∷ parts_at bytes c.args.waiting.now) all c.loop-node.invariant.1 in
-    let within = subst (LieWithin (length bytes)) all c.loop-node.invariant.3 in
-    let stretches = subst
-    (λ (s : Spot). IsStretch (seen ++ part node.no s.first node.at (take (s.at + s.len - s.at) (drop s.at bytes)) ∷ []) c.args.at
-    (option_copied c.with_earlier-stretch-in-Some.result))
-    c.of-spot.ensures (c.with_earlier-stretch-in-Some.ensures seen node.no node.at c.loop-node.invariant.2) in
-    (seen ++ part_at bytes node ∷ [], append_assoc seen (part_at bytes node ∷ []) (parts_at bytes rest) ∙ whole, stretches, within.1)
+    let nodes = c.args.waiting.now in
+    c.in_packet.ensures (parts_at bytes (newest_first nodes))
+    (byte_earliest bytes nodes c.requires.within c.args.at ∙ ap (byte_of bytes c.args.at) (sym c.run_at-run.ensures.spot ∙ c.in-None.is))
+    (λ k later below. byte_earliest bytes nodes c.requires.within k ∙ ap (byte_of bytes k) (c.run_at-run.ensures.same k later below ∙ c.in-None.is))

@@ -1,0 +1,5 @@
+pub mod Newest
+pub mod Oldest
+pub mod Orders
+pub mod Reading
+pub mod Trees

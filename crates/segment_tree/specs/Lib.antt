@@ -1,0 +1,4 @@
+pub mod Order
+pub mod Reads
+pub mod Spots
+pub mod Tree
