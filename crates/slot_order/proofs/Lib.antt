@@ -1,3 +1,4 @@
 pub mod Sorted
 pub mod Rows
 pub mod Next
+pub mod Index

@@ -94,7 +94,7 @@ module _ {X : Type 0} where
   place_end (v ∷ u ∷ vs) zero l = absurd (omega (arith, l))
   place_end (v ∷ vs) (suc c) l = let e = length-append v.items (joined vs) in let h = place_end vs c (omega (arith, l)) in omega (arith, e, h)
 
-  pub few_at : (cs : List (Vec X Global)) (c : ℕ) → All IsChunk cs → c < length cs → (0 < length (items_at cs c)) × (length (items_at cs c) < 512)
+  pub few_at : (cs : List (Vec X Global)) (c : ℕ) → All IsChunk cs → c < length cs → (0 < length (items_at cs c)) × (length (items_at cs c) < 256)
   few_at [] c a l = absurd (omega (arith, l))
   few_at (v ∷ vs) zero a l = ((a 0 v (omega arith)).some, (a 0 v (omega arith)).few)
   few_at (v ∷ vs) (suc c) a l = few_at vs c (λ j d m. a (suc j) d (omega (arith, m))) (omega (arith, l))

@@ -199,6 +199,16 @@ module _ {K : Type 0} {cmp : K → K → Ordering} (t : IsTotalOrder cmp) where
       step true h = h refl
       step false h = refl
 
+  -- where the key that comes is the one that leaves, nothing changes
+  pub same_slots : (es : List (K × ℕ)) (k l : K) (s : ℕ) → is_eq (cmp k l) ≡ true → slot_of cmp es k ≡ Some s → (q : K) → slot_of cmp es q ≡ cond (is_eq (cmp l q)) (Some s) (cond (is_eq (cmp k q)) None (slot_of cmp es q))
+  same_slots es k l s e h q = by (is_eq (cmp l q)) (is_eq (cmp k q)) (ap is_eq (t.congr k l q (equal_is (cmp k l) e))) (λ m. sym (slot_same es k q (equal_is (cmp k q) m)) ∙ h)
+    where
+      by : (b c : Bool) → c ≡ b → (c ≡ true → slot_of cmp es q ≡ Some s) → slot_of cmp es q ≡ cond b (Some s) (cond c None (slot_of cmp es q))
+      by true true e f = f refl
+      by true false e f = cc
+      by false true e f = cc
+      by false false e f = refl
+
   -- a list with an element begins with its first
   pub first_of : (es : List (K × ℕ)) (e : K × ℕ) → AreSorted cmp es → 0 < length es → e ≡ get_or es 0 e → IsFirst cmp es e
   first_of [] e o l h = absurd (omega (arith, l))

@@ -45,8 +45,13 @@ abbrev pub is_key : {K : Type 0} → (K → K → Ordering) → Option K → K �
 is_key cmp None q = false
 is_key cmp (Some k) q = is_eq (cmp k q)
 
+-- for how many pairs more there has to be room where one key leaves and another comes: for none where they are one key
+abbrev pub added : {K : Type 0} → (K → K → Ordering) → Option K → Option K → ℕ
+added cmp old None = 0
+added cmp old (Some k) = if is_key cmp old k then 0 else 1
+
 -- where a key leaves the slot that it had, and another takes it
 pub record CanReplace {K : Type 0} (cmp : K → K → Ordering) (es : List (K × ℕ)) (spare : ℕ) (old new : Option K) (s : ℕ) : Type 0 where
   pub was : (k : K) → old ≡ Some k → slot_of cmp es k ≡ Some s
   pub free : (k : K) (r : ℕ) → new ≡ Some k → slot_of cmp es k ≡ Some r → is_key cmp old k ≡ true
-  pub room : (k : K) → new ≡ Some k → 0 < spare
+  pub room : added cmp old new ≤ spare

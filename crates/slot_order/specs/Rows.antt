@@ -25,13 +25,13 @@ place_in (v ∷ vs) (suc c) i = length v.items + place_in vs c i
 -- a chunk that holds something, with room for one more, and that is never full
 pub record IsChunk {X : Type 0} (v : Vec X Global) : Type 0 where
   pub some : 0 < length v.items
-  pub few : length v.items < 512
-  pub wide : 512 ≤ vec_capacity v
+  pub few : length v.items < 256
+  pub wide : 256 ≤ vec_capacity v
 
 -- an empty chunk, kept for a split
 pub record IsSpare {X : Type 0} (v : Vec X Global) : Type 0 where
   pub none : v.items ≡ []
-  pub wide : 512 ≤ vec_capacity v
+  pub wide : 256 ≤ vec_capacity v
 
 -- whether what stands here begins above a key
 abbrev pub begins_above : {K : Type 0} → (K → K → Ordering) → K → List (K × ℕ) → Bool

@@ -1,19 +1,22 @@
 //! Sorted pairs in a row of chunks: where a key stands among them, and how the chunks are kept neither full nor many.
-ghost use Rattle.std.specs.Prelude.{◌≡◌, ◌<◌, ◌≤◌, ◌+◌, ◌-◌, ◌++◌, ◌∷◌, [], ℕ, length, slice_index_or, IfOk, IfErr, MatchOption, true, vec_len, vec_capacity};
+ghost use Rattle.std.specs.Prelude.{◌≡◌, ◌<◌, ◌≤◌, ◌+◌, ◌-◌, ◌++◌, ◌∷◌, [], ℕ, length, slice_index_or, IsOk, OnOk, IfOk, IfErr, MatchOption, true, vec_len, vec_capacity};
 ghost use Rattle.std.specs.Ordering.{is_gt};
 ghost use Rattle.std.specs.List.{All, insert, remove};
 ghost use Rattle.slot_order.specs.Order.{AreSorted, IsAt, IsGap};
 ghost use Rattle.slot_order.specs.Next.{IsCut};
 ghost use Rattle.slot_order.specs.Rows.{begins_above, items_at, joined, place_in, IsChunk, IsFoundIn, IsHome, IsMissingIn, IsRow, IsSpare};
 
+use std::alloc::Global;
+use suri_base::NoMemory;
+
 /// A chunk of this many pairs is split.
-pub const MOST: usize = 512;
+pub const MOST: usize = 256;
 
 // How many pairs of a split chunk stay, and the most that two neighbours hold together when they are joined.
-const HALF: usize = 256;
+const HALF: usize = 128;
 
-// One element more at a place, for which there is room.
-fn put<T: Drop>(items: &mut Vec<T>, at: usize, item: T)
+/// One element more at a place, for which there is room.
+pub fn put<T: Drop>(items: &mut Vec<T>, at: usize, item: T)
     requires room { vec_len items.old < vec_capacity items.old }
     requires at { at ≤ vec_len items.old }
     ensures items { items.new.items ≡ insert items.old.items at item }
@@ -23,8 +26,8 @@ fn put<T: Drop>(items: &mut Vec<T>, at: usize, item: T)
     let _ = items.insert(at, item);
 }
 
-// Where a key stands among sorted pairs, or where it would go.
-fn search<K: Ord + Copy + Drop>(pairs: &[(K, u32)], key: K) -> Result<usize, usize>
+/// Where a key stands among sorted pairs, or where it would go.
+pub fn search<K: Ord + Copy + Drop>(pairs: &[(K, u32)], key: K) -> Result<usize, usize>
     requires { AreSorted K.cmp pairs.now }
     ensures found { IfOk result (IsAt K.cmp pairs.now key) }
     ensures absent { IfErr result (IsGap K.cmp pairs.now key) }
@@ -121,23 +124,32 @@ fn put_all<K: Copy + Drop>(pairs: &mut Vec<(K, u32)>, more: &[(K, u32)])
     let _ = pairs.extend_from_slice(more);
 }
 
-// The upper half of a chunk goes to an empty one.
-fn move_half<K: Copy + Drop>(chunk: &mut Vec<(K, u32)>, other: &mut Vec<(K, u32)>)
-    requires full { length chunk.old.items ≡ 512 }
-    requires chunk { 512 ≤ vec_capacity chunk.old }
+// The pairs of a full chunk from a place on go to an empty one.
+fn move_from<K: Copy + Drop>(chunk: &mut Vec<(K, u32)>, other: &mut Vec<(K, u32)>, from: usize)
+    requires from { (0 < from) × (from < 256) }
+    requires full { length chunk.old.items ≡ 256 }
+    requires chunk { 256 ≤ vec_capacity chunk.old }
     requires other { IsSpare other.old }
     ensures items { chunk.old.items ≡ chunk.new.items ++ other.new.items }
     ensures chunk { IsChunk chunk.new }
     ensures other { IsChunk other.new }
 {
-    put_all(other, &chunk[HALF..]);
-    chunk.truncate(HALF);
+    put_all(other, &chunk[from..]);
+    chunk.truncate(from);
+}
+
+// From where on the pairs of a full chunk go to another: where the newest stands at the end, it goes alone, so that keys
+// that come as they rise leave full chunks; else the upper half goes.
+fn split_place(at: usize) -> usize
+    ensures { (0 < result) × (result < 256) }
+{
+    if at == MOST - 1 { at } else { HALF }
 }
 
 // A chunk that is done with is kept, where there is room for it.
 fn give_back<K: Copy + Drop>(spares: &mut Vec<Vec<(K, u32)>>, mut chunk: Vec<(K, u32)>)
     requires spares { All IsSpare spares.old.items }
-    requires wide { 512 ≤ vec_capacity chunk }
+    requires wide { 256 ≤ vec_capacity chunk }
     ensures spares { All IsSpare spares.new.items }
     ensures kept { vec_len spares.old ≤ vec_len spares.new }
 {
@@ -145,6 +157,33 @@ fn give_back<K: Copy + Drop>(spares: &mut Vec<Vec<(K, u32)>>, mut chunk: Vec<(K,
         chunk.clear();
         let _ = spares.push(chunk);
     }
+}
+
+/// Empty chunks, until there are so many.
+///
+/// # Errors
+///
+/// `NoMemory` where there is none for them.
+pub fn keep_spares<K: Copy + Drop>(
+    alloc: Global,
+    spares: &mut Vec<Vec<(K, u32)>>,
+    count: usize,
+) -> Result<(), NoMemory>
+    requires spares { All IsSpare spares.old.items }
+    ensures spares { All IsSpare spares.new.items }
+    ensures kept { vec_len spares.old ≤ vec_len spares.new }
+    ensures enough { OnOk result (count ≤ vec_len spares.new) }
+    ensures succeeds { count ≤ vec_len spares.old → IsOk result }
+{
+    while spares.len() < count {
+        let Ok(chunk) = Vec::with_capacity(alloc, MOST) else {
+            return Err(NoMemory);
+        };
+        if spares.push(chunk).is_err() {
+            return Err(NoMemory);
+        }
+    }
+    Ok(())
 }
 
 /// The first pair of all.
@@ -191,7 +230,7 @@ pub fn put_pair<K: Copy + Drop>(
         return;
     }
     if let Some(mut other) = spares.pop() {
-        move_half(&mut chunks[home], &mut other);
+        move_from(&mut chunks[home], &mut other, split_place(at));
         put(chunks, home + 1, other);
     }
 }
@@ -203,7 +242,7 @@ fn join_next<K: Copy + Drop>(
     at: usize,
 )
     requires at { at + 1 < length chunks.old.items }
-    requires few { length (items_at chunks.old.items at) + length (items_at chunks.old.items (at + 1)) < 512 }
+    requires few { length (items_at chunks.old.items at) + length (items_at chunks.old.items (at + 1)) < 256 }
     requires row { IsRow chunks.old spares.old }
     ensures pairs { joined chunks.new.items ≡ joined chunks.old.items }
     ensures row { IsRow chunks.new spares.new }
@@ -219,7 +258,7 @@ fn join_next<K: Copy + Drop>(
 // Whether a chunk and the next one hold so little that they can be one.
 fn are_small<K: Copy + Drop>(chunks: &[Vec<(K, u32)>], at: usize) -> bool
     requires at { at < length chunks.now }
-    ensures { result ≡ true → (at + 1 < length chunks.now) × (length (items_at chunks.now at) + length (items_at chunks.now (at + 1)) < 512) }
+    ensures { result ≡ true → (at + 1 < length chunks.now) × (length (items_at chunks.now at) + length (items_at chunks.now (at + 1)) < 256) }
 {
     if chunks.len() - at < 2 {
         return false;

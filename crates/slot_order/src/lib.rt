@@ -2,7 +2,9 @@
 #![tactic(auto)]
 
 mod chunks;
+mod few;
 mod order;
+mod row;
 #[cfg(test)]
 mod tests;
 

@@ -1,33 +1,33 @@
 //! Slots by the order of their keys.
-ghost use Rattle.std.specs.Prelude.{◌≡◌, ◌<◌, ◌≤◌, ◌+◌, [], if◌then◌else◌, None, Some, true, OnOk, IsOk, MatchOption};
+ghost use Rattle.std.specs.Prelude.{◌≡◌, ◌<◌, ◌≤◌, ◌+◌, ◌^◌, [], ℕ, length, if◌then◌else◌, None, Some, true, IfErr, IfOk, OnOk, IsOk, MatchOption};
 ghost use Rattle.std.specs.Ordering.{is_eq, is_gt};
 ghost use Rattle.slot_order.specs.Next.{IsNext};
-ghost use Rattle.slot_order.specs.Order.{AreSorted, CanReplace, IsFirst, is_key, slot_of};
+ghost use Rattle.slot_order.specs.Order.{added, CanReplace, IsFirst, is_key, slot_of};
 
-use crate::chunks::{MOST, begin, locate, locate_after, pair_from, put_pair, take_pair};
+use crate::chunks::MOST;
+use crate::few::Few;
+use crate::row::Row;
 use std::alloc::Global;
 use std::marker::Model;
 use suri_base::NoMemory;
 
-/// A finite map from keys to slots, in chunks by rising key, so that a change moves the pairs of one chunk alone. Contracts
-/// see the pairs in their order, and for how many more there is room.
+/// A finite map from keys to slots, by rising key. Contracts see the pairs in their order, and for how many more there is room.
 #[derive(Drop)]
 pub struct Order<K: Ord + Copy + Drop> {
     alloc: Global,
-    chunks: Vec<Vec<(K, u32)>>,
-    // Empty chunks, for splits.
-    spares: Vec<Vec<(K, u32)>>,
+    // Which of the two holds the pairs.
+    is_many: bool,
+    few: Few<K>,
+    many: Row<K>,
 }
 
 impl<K: Ord + Copy + Drop> Model for Order<K> {
-    ghost use Rattle.slot_order.specs.Order.{AreSorted, Pairs};
-    ghost use Rattle.slot_order.specs.Rows.{joined, room_of, IsRow};
+    ghost use Rattle.std.specs.Prelude.{if◌then◌else◌};
+    ghost use Rattle.slot_order.specs.Order.{Pairs};
 
     ghost Value = { Pairs K };
 
-    ghost view = { λ o. record { pairs = joined o.chunks.items; room = room_of o.chunks o.spares } };
-
-    ghost invariant = { λ o. AreSorted K.cmp (joined o.chunks.items) × IsRow o.chunks o.spares };
+    ghost view = { λ o. if o.is_many then o.many else o.few };
 }
 
 impl<K: Ord + Copy + Drop> Order<K> {
@@ -37,34 +37,51 @@ impl<K: Ord + Copy + Drop> Order<K> {
     {
         Order {
             alloc,
-            chunks: Vec::new(alloc),
-            spares: Vec::new(alloc),
+            is_many: false,
+            few: Few::new(alloc),
+            many: Row::new(alloc),
         }
     }
 
-    /// Makes room for one more slot, where there is none.
+    /// Makes room for so many more slots, where there is less.
     ///
     /// # Errors
     ///
     /// `NoMemory` where there is none for that room. The slots are the same.
-    pub fn reserve(&mut self) -> Result<(), NoMemory>
+    pub fn reserve(&mut self, count: usize) -> Result<(), NoMemory>
         ensures pairs { self.new.pairs ≡ self.old.pairs }
         ensures kept { self.old.room ≤ self.new.room }
-        ensures room { OnOk result (0 < self.new.room) }
-        ensures succeeds { 0 < self.old.room → IsOk result }
+        ensures room { OnOk result (count ≤ self.new.room) }
+        ensures succeeds { count ≤ self.old.room → IsOk result }
     {
-        if self.chunks.reserve(1).is_err() {
-            return Err(NoMemory);
+        if self.is_many {
+            return self.many.reserve(count);
         }
-        if self.spares.len() > 0 {
+        if count <= self.few.room() {
             return Ok(());
         }
-        let Ok(chunk) = Vec::with_capacity(self.alloc, MOST) else {
-            return Err(NoMemory);
-        };
-        match self.spares.push(chunk) {
-            Ok(_) => Ok(()),
-            Err(_) => Err(NoMemory),
+        if self.few.is_enough(count) {
+            return self.few.reserve(count);
+        }
+        match grown(self.alloc, &mut self.few, count) {
+            Ok(row) => {
+                self.many = row;
+                self.is_many = true;
+                Ok(())
+            }
+            Err(error) => Err(error),
+        }
+    }
+
+    /// For how many more slots there is room.
+    pub fn room(&self) -> usize
+        ensures value { result ≡ self.now.room }
+        ensures small { result < 2 ^ 63 }
+    {
+        if self.is_many {
+            self.many.room()
+        } else {
+            self.few.room()
         }
     }
 
@@ -72,13 +89,10 @@ impl<K: Ord + Copy + Drop> Order<K> {
     pub fn find(&self, key: K) -> Option<u32>
         ensures { result ≡ slot_of K.cmp self.now.pairs key }
     {
-        if self.chunks.is_empty() {
-            return None;
-        }
-        let (home, place) = locate(&self.chunks, key);
-        match place {
-            Ok(at) => Some(self.chunks[home][at].1),
-            Err(_) => None,
+        if self.is_many {
+            self.many.find(key)
+        } else {
+            self.few.find(key)
         }
     }
 
@@ -87,15 +101,13 @@ impl<K: Ord + Copy + Drop> Order<K> {
         requires room { 0 < self.old.room }
         requires new { slot_of K.cmp self.old.pairs key ≡ None }
         ensures slots { (q : K) → slot_of K.cmp self.new.pairs q ≡ (if is_eq (K.cmp key q) then Some slot else slot_of K.cmp self.old.pairs q) }
+        ensures len { length self.new.pairs ≡ length self.old.pairs + 1 }
         ensures room { self.old.room ≤ self.new.room + 1 }
     {
-        if self.chunks.is_empty() {
-            begin(&mut self.chunks, &mut self.spares, (key, slot));
-            return;
-        }
-        let (home, place) = locate(&self.chunks, key);
-        if let Err(at) = place {
-            put_pair(&mut self.chunks, &mut self.spares, home, at, (key, slot));
+        if self.is_many {
+            self.many.insert(key, slot);
+        } else {
+            self.few.insert(key, slot);
         }
     }
 
@@ -103,26 +115,22 @@ impl<K: Ord + Copy + Drop> Order<K> {
     pub fn remove(&mut self, key: K) -> Option<u32>
         ensures was { result ≡ slot_of K.cmp self.old.pairs key }
         ensures rest { (q : K) → slot_of K.cmp self.new.pairs q ≡ (if is_eq (K.cmp key q) then None else slot_of K.cmp self.old.pairs q) }
+        ensures len { MatchOption result (self.new.pairs ≡ self.old.pairs) (λ s. length self.new.pairs + 1 ≡ length self.old.pairs) }
         ensures kept { self.old.room ≤ self.new.room }
     {
-        if self.chunks.is_empty() {
-            return None;
-        }
-        let (home, place) = locate(&self.chunks, key);
-        match place {
-            Ok(at) => {
-                let slot = self.chunks[home][at].1;
-                take_pair(&mut self.chunks, &mut self.spares, home, at);
-                Some(slot)
-            }
-            Err(_) => None,
+        if self.is_many {
+            self.many.remove(key)
+        } else {
+            self.few.remove(key)
         }
     }
 
-    /// A key leaves the slot that it had, and another takes it; either may be missing. It takes no memory.
+    /// A key leaves the slot that it had, and another takes it; either may be missing. It takes no memory, and where the two
+    /// are one key, it changes nothing.
     pub fn replace(&mut self, old: Option<K>, new: Option<K>, slot: u32)
         requires { CanReplace K.cmp self.old.pairs self.old.room old new slot }
-        ensures { (q : K) → slot_of K.cmp self.new.pairs q ≡ (if is_key K.cmp new q then Some slot else (if is_key K.cmp old q then None else slot_of K.cmp self.old.pairs q)) }
+        ensures slots { (q : K) → slot_of K.cmp self.new.pairs q ≡ (if is_key K.cmp new q then Some slot else (if is_key K.cmp old q then None else slot_of K.cmp self.old.pairs q)) }
+        ensures room { self.old.room ≤ self.new.room + added K.cmp old new }
     {
         match (old, new) {
             (None, None) => {}
@@ -130,31 +138,66 @@ impl<K: Ord + Copy + Drop> Order<K> {
             (Some(from), None) => {
                 let _ = self.remove(from);
             }
-            (Some(from), Some(to)) => {
-                let _ = self.remove(from);
-                self.insert(to, slot);
-            }
+            (Some(from), Some(to)) => self.rename(from, to, slot),
         }
+    }
+
+    // A slot leaves one key for another.
+    fn rename(&mut self, from: K, to: K, slot: u32)
+        requires { CanReplace K.cmp self.old.pairs self.old.room (Some from) (Some to) slot }
+        ensures slots { (q : K) → slot_of K.cmp self.new.pairs q ≡ (if is_eq (K.cmp to q) then Some slot else (if is_eq (K.cmp from q) then None else slot_of K.cmp self.old.pairs q)) }
+        ensures room { self.old.room ≤ self.new.room + added K.cmp (Some from) (Some to) }
+    {
+        if from.cmp(&to).is_eq() {
+            return;
+        }
+        let _ = self.remove(from);
+        self.insert(to, slot);
     }
 
     /// The least key with its slot.
     pub fn first(&self) -> Option<(K, u32)>
         ensures { MatchOption result ((q : K) → slot_of K.cmp self.now.pairs q ≡ None) (IsFirst K.cmp self.now.pairs) }
     {
-        if self.chunks.is_empty() {
-            return None;
+        if self.is_many {
+            self.many.first()
+        } else {
+            self.few.first()
         }
-        Some(self.chunks[0][0])
     }
 
     /// The least key above a key, with its slot: so the keys can be gone through in their order.
     pub fn next_after(&self, key: K) -> Option<(K, u32)>
         ensures { MatchOption result ((q : K) → is_gt (K.cmp q key) ≡ true → slot_of K.cmp self.now.pairs q ≡ None) (IsNext K.cmp self.now.pairs key) }
     {
-        if self.chunks.is_empty() {
-            return None;
+        if self.is_many {
+            self.many.next_after(key)
+        } else {
+            self.few.next_after(key)
         }
-        let (home, at) = locate_after(&self.chunks, key);
-        pair_from(&self.chunks, home, at)
     }
+}
+
+// The pairs in chunks, with room for so many more.
+fn grown<K: Ord + Copy + Drop>(
+    alloc: Global,
+    few: &mut Few<K>,
+    count: usize,
+) -> Result<Row<K>, NoMemory>
+    requires few { length few.old.pairs < 256 }
+    ensures pairs { IfOk result (λ row. row.pairs ≡ few.old.pairs) }
+    ensures room { IfOk result (λ row. count ≤ row.room) }
+    ensures same { IfErr result (λ _. few.new.pairs ≡ few.old.pairs) }
+    ensures kept { IfErr result (λ _. few.old.room ≤ few.new.room) }
+{
+    let Some(wanted) = count.checked_add(1) else {
+        return Err(NoMemory);
+    };
+    let mut row = Row::new(alloc);
+    row.reserve(wanted)?;
+    if few.len() > 0 {
+        few.reserve(MOST)?;
+        row.begin_with(few.take(alloc));
+    }
+    Ok(row)
 }

@@ -12,7 +12,7 @@ fn next(state: u64) -> u64 {
 
 // A key that has no slot gets one.
 fn put(order: &mut Order<u64>, key: u64, slot: u32) -> Result<(), NoMemory> {
-    order.reserve()?;
+    order.reserve(1)?;
     match order.find(key) {
         Some(_) => {}
         None => order.insert(key, slot),
@@ -86,7 +86,7 @@ fn gives_many_keys_in_their_order(rt: HostRuntime) -> Result<(), Fail> {
 #[test]
 fn moves_a_slot_to_another_key(rt: HostRuntime) -> Result<(), Fail> {
     let mut order: Order<(u64, u32)> = Order::new(rt.alloc());
-    order.reserve()?;
+    order.reserve(1)?;
     match order.find((5, 1)) {
         Some(_) => {}
         None => order.replace(None, Some((5, 1)), 9),

@@ -17,8 +17,8 @@ returns-then-len-lt-MOST-clause-pairs g c =
     let e = at_read c.args.chunks.now.items c.args.home c.index_mut.result.now c.index_mut.ensures.value c.requires.home in
     insert_joined c.args.chunks.now.items c.args.home c.args.at c.args.pair c.put.new.items c.requires.home c.requires.at (c.put.ensures.items ∙ ap (λ es. insert es c.args.at c.args.pair) (sym e))
 
-pub move_half-requires-clause-other : goal.move_half-requires-clause-other
-move_half-requires-clause-other g c = all_last IsSpare c.pop.new.self.items c.args.spares.now.items c.in-Some.other c.in-Some.ensures.items c.requires.row.spares
+pub move_from-requires-clause-other : goal.move_from-requires-clause-other
+move_from-requires-clause-other g c = all_last IsSpare c.pop.new.self.items c.args.spares.now.items c.in-Some.other c.in-Some.ensures.items c.requires.row.spares
 
 pub returns-in-Some-clause-pairs : goal.returns-in-Some-clause-pairs
 returns-in-Some-clause-pairs g c =
@@ -28,17 +28,17 @@ returns-in-Some-clause-pairs g c =
     let m : c.args.home < length cs = omega (arith, l, c.requires.home) in
     let f = at_read cs c.args.home c.index_mut-in-Some.result.now c.index_mut-in-Some.ensures.value m in
     ap joined c.put-in-Some.ensures.items
-    ∙ split_joined cs c.args.home c.move_half.new.chunk c.move_half.new.other m (f ∙ c.move_half.ensures.items)
+    ∙ split_joined cs c.args.home c.move_from.new.chunk c.move_from.new.other m (f ∙ c.move_from.ensures.items)
     ∙ insert_joined c.args.chunks.now.items c.args.home c.args.at c.args.pair c.put.new.items c.requires.home c.requires.at (c.put.ensures.items ∙ ap (λ es. insert es c.args.at c.args.pair) (sym e))
 
 pub returns-in-Some-clause-row : goal.returns-in-Some-clause-row
 returns-in-Some-clause-row g c =
     let cs = c.args.chunks.now.items in
-    let ws = set cs c.args.home c.move_half.new.chunk in
-    let l = length-set cs c.args.home c.move_half.new.chunk in
-    let twice = set_twice cs c.args.home c.put.new.items c.move_half.new.chunk in
-    let all : All IsChunk ws = All-set IsChunk cs c.args.home c.move_half.new.chunk c.move_half.ensures.chunk c.requires.row.chunks in
+    let ws = set cs c.args.home c.move_from.new.chunk in
+    let l = length-set cs c.args.home c.move_from.new.chunk in
+    let twice = set_twice cs c.args.home c.put.new.items c.move_from.new.chunk in
+    let all : All IsChunk ws = All-set IsChunk cs c.args.home c.move_from.new.chunk c.move_from.ensures.chunk c.requires.row.chunks in
     record {
-      chunks = subst (All IsChunk) (sym (c.put-in-Some.ensures.items ∙ ap (λ vs. insert vs (c.args.home + 1) c.move_half.new.other) twice)) (all_insert IsChunk ws (c.args.home + 1) c.move_half.new.other (omega (arith, l, c.requires.home)) all c.move_half.ensures.other);
+      chunks = subst (All IsChunk) (sym (c.put-in-Some.ensures.items ∙ ap (λ vs. insert vs (c.args.home + 1) c.move_from.new.other) twice)) (all_insert IsChunk ws (c.args.home + 1) c.move_from.new.other (omega (arith, l, c.requires.home)) all c.move_from.ensures.other);
       spares = all_front IsSpare c.pop.new.self.items (c.in-Some.other ∷ []) c.args.spares.now.items c.in-Some.ensures.items c.requires.row.spares;
     }

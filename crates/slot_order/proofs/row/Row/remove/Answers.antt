@@ -3,7 +3,7 @@ use Rattle.slot_order.specs.Order.{AreSorted, slot_of}
 use Rattle.slot_order.specs.Rows.{joined, place_in}
 use Rattle.slot_order.proofs.Sorted.{slot_read, slot_in_gap, slot_remove, slot_absent, sorted_remove}
 use Rattle.slot_order.proofs.Rows.{at_read, pair_read, found_in, missing_in}
-use Rattle.slot_order.proofs.order.Order.remove.Goals as goal
+use Rattle.slot_order.proofs.row.Row.remove.Goals as goal
 
 pub index-requires-in-Ok : goal.index-requires-in-Ok
 index-requires-in-Ok g c =

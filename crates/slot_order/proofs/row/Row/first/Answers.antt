@@ -4,7 +4,7 @@ use Rattle.slot_order.specs.Order.{IsFirst}
 use Rattle.slot_order.specs.Rows.{joined, IsChunk}
 use Rattle.slot_order.proofs.Sorted.{first_of}
 use Rattle.slot_order.proofs.Rows.{all_at, at_read, ends_within, first_place, pair_read}
-use Rattle.slot_order.proofs.order.Order.first.Goals as goal
+use Rattle.slot_order.proofs.row.Row.first.Goals as goal
 
 some : (n : ℕ) → (n == 0) ≡ false → 0 < n
 some n h = grind (arith, nat_tests)

@@ -4,7 +4,7 @@ use Rattle.std.specs.Ordering.{is_gt}
 use Rattle.slot_order.specs.Order.{slot_of}
 use Rattle.slot_order.specs.Next.{IsNext}
 use Rattle.slot_order.proofs.Next.{stepped_in}
-use Rattle.slot_order.proofs.order.Order.next_after.Goals as goal
+use Rattle.slot_order.proofs.row.Row.next_after.Goals as goal
 
 pub returns : goal.returns
 returns g c = subst (λ s. MatchOption c.pair_from.result ((q : g.row.K.Denot) → is_gt (g.K.Ord.cmp q c.args.key) ≡ true → slot_of g.K.Ord.cmp s.pairs q ≡ None) (IsNext g.K.Ord.cmp s.pairs c.args.key)) c.self.view_is

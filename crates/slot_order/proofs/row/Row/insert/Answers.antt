@@ -3,7 +3,7 @@ use Rattle.slot_order.specs.Order.{AreSorted, slot_of}
 use Rattle.slot_order.specs.Rows.{joined, place_in}
 use Rattle.slot_order.proofs.Sorted.{slot_at, slot_insert, sorted_insert}
 use Rattle.slot_order.proofs.Rows.{found_in, missing_in}
-use Rattle.slot_order.proofs.order.Order.insert.Goals as goal
+use Rattle.slot_order.proofs.row.Row.insert.Goals as goal
 
 differ : (r : Option ℕ) (s : ℕ) → r ≡ None → r ≡ Some s → ⊥
 differ r s n h = cc
@@ -22,6 +22,13 @@ returns-in-Err-clause-slots g c =
 
 pub returns-in_default-clause-slots : goal.returns-in_default-clause-slots
 returns-in_default-clause-slots g c =
+    let cs = c.self.inside.chunks.items in
+    let f = found_in g.K.Ord.cmp c.deref.result.now cs c.locate-home.result.0 c.in_default.field-0 c.args.key c.locate-home.result.1 c.deref.ensures.value c.in_default.is c.locate-home.ensures.found in
+    let n : slot_of g.K.Ord.cmp (joined cs) c.args.key ≡ None = ap (λ s. slot_of g.K.Ord.cmp s.pairs c.args.key) c.self.view_is ∙ c.requires.new in
+    absurd (differ _ _ n (slot_at g.met.K.Ord.total (joined cs) c.args.key (place_in cs c.locate-home.result.0 c.in_default.field-0) (c.args.key, 0) c.self.invariant.0 f.there))
+
+pub returns-in_default-clause-len : goal.returns-in_default-clause-len
+returns-in_default-clause-len g c =
     let cs = c.self.inside.chunks.items in
     let f = found_in g.K.Ord.cmp c.deref.result.now cs c.locate-home.result.0 c.in_default.field-0 c.args.key c.locate-home.result.1 c.deref.ensures.value c.in_default.is c.locate-home.ensures.found in
     let n : slot_of g.K.Ord.cmp (joined cs) c.args.key ≡ None = ap (λ s. slot_of g.K.Ord.cmp s.pairs c.args.key) c.self.view_is ∙ c.requires.new in
