@@ -1,0 +1,17 @@
+//! What holds of orders beside slots.
+ghost use Rattle.flow_orders.specs.Laws.{GrowsSlots, KeepsUses, MayMend};
+
+/// From the slots and room enough, the marks of a slot may change. It does nothing.
+pub fn may_mend()
+    ensures { MayMend }
+{}
+
+/// The orders of slots are those of one empty slot more. It does nothing.
+pub fn grows_slots()
+    ensures { GrowsSlots }
+{}
+
+/// The uses of a flow are in their order when the flow changes but for them. It does nothing.
+pub fn keeps_uses()
+    ensures { KeepsUses }
+{}

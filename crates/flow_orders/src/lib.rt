@@ -1,0 +1,13 @@
+//! The orders of a bucket's flows: by key, by deadline, by age among the unused, and by the frames that use them.
+#![tactic(auto)]
+
+mod laws;
+mod marks;
+mod orders;
+#[cfg(test)]
+mod tests;
+mod walks;
+
+pub use laws::{grows_slots, keeps_uses, may_mend};
+pub use marks::Marks;
+pub use orders::Orders;
