@@ -1,0 +1,14 @@
+pub mod Cuts
+pub mod BucketNotes
+pub mod Ends
+pub mod EntryLines
+pub mod Feeds
+pub mod Free
+pub mod Histories
+pub mod Numerals
+pub mod Parts
+pub mod Stopping
+pub mod Rows
+pub mod Some
+pub mod Spacing
+pub mod Trails

@@ -1,0 +1,10 @@
+use Rattle.std.proofs.Common.{◌∷◌, []}
+use Rattle.trail_text.specs.Bounds.{SegFits, EntryFits}
+use Rattle.trail_text.specs.Lines.{entry_line}
+use Rattle.trail_text.specs.Reading.{TookRow}
+use Rattle.trail_text.specs.Words.{seg_words}
+use Rattle.trail_text.proofs.reading_parts.seg_entries.Given as goal
+
+-- the entries so far were read
+abbrev pub invariant-loop : goal.invariant-loop
+invariant-loop l = TookRow (λ _ e. entry_line seg_words e ∷ []) (EntryFits SegFits) l.fn.lines l.lines l.counter l.entries.items

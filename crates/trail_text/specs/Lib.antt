@@ -1,0 +1,6 @@
+pub mod Bounds
+pub mod Faults
+pub mod Lines
+pub mod Pieces
+pub mod Reading
+pub mod Words
