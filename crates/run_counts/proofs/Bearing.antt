@@ -1,6 +1,6 @@
 -- The frames of a capture that bear packets, by their numbers: each is there once, and together they weigh what the packets weigh, whatever is
 -- weighed.
-use Rattle.std.proofs.Common.{◌≡◌, ℕ, zero, suc, ◌+◌, ◌-◌, ◌<◌, ◌≤◌, Bool, cond, List, [], ◌∷◌, ◌++◌, filter, length, Option, Some, None, ◌⊎◌, inl, inr, refl, ◌∙◌, ap, arith}
+use Rattle.std.proofs.Common.{◌≡◌, ℕ, zero, suc, ◌+◌, ◌<◌, ◌≤◌, Bool, cond, List, [], ◌∷◌, ◌++◌, filter, length, Option, Some, None, ◌⊎◌, inl, inr, refl, ◌∙◌, ap, arith}
 use Rattle.std.specs.Option.{is_some, option_to_list}
 use Rattle.std.specs.Prelude.{get_or, slice_get, sum_by, take}
 use Rattle.std.proofs.Math.Seq.{take-length, take-suc}

@@ -1,8 +1,8 @@
 mod Counting
 mod Summing
 mod Telling
-mod Adding
-mod Naming
+pub mod Adding
+pub mod Naming
 mod Answered
 mod Bearing
-mod Whole
+pub mod Whole

@@ -72,7 +72,7 @@ module _ (q : Sums → ℕ) (g : Facts → ℕ) (tells : (r : Run) → q (sums_o
       let r = row_in w t run in
       omega (arith, sum_by-cons (λ (k : FlowLine). q k.sums) l lines, line_tells w r r.members r.place l here, lines_tell w t lines runs rest)
 
-ones : (packets : List Facts) → sum_by (λ p. 1) packets ≡ length packets
+pub ones : (packets : List Facts) → sum_by (λ p. 1) packets ≡ length packets
 ones [] = refl
 ones (f ∷ packets) = omega (arith, sum_by-cons (λ (p : Facts). 1) f packets, ones packets)
 
@@ -111,7 +111,7 @@ module _ (w : Setup) (d : IsSetup w) (t : Histories) (l : AreScripted w t) where
 
   module _ (g : Facts → ℕ) where
     -- so all answers weigh what the packets weigh
-    answers_are_packets : sum_below buckets (λ b. sum_over (weight_of g w.capture) (all_named (at_bucket b))) ≡ sum_by g (packets_in w.capture.seen)
+    pub answers_are_packets : sum_below buckets (λ b. sum_over (weight_of g w.capture) (all_named (at_bucket b))) ≡ sum_by g (packets_in w.capture.seen)
     answers_are_packets =
         sym (over_places (weight_of g w.capture) buckets (λ b. all_named (at_bucket b)))
         ∙ (over_alike (weight_of g w.capture) (joined_below buckets (λ b. all_named (at_bucket b))) (bearers w.capture)

@@ -30,6 +30,7 @@ use Rattle.run_rules.specs.Lawful.{AreLawful}
 use Rattle.run_rules.specs.Serving.{finished}
 use Rattle.run_rules.specs.Setup.{Setup, fixed_at, roles}
 use Rattle.suri_base.specs.Trail.{Trailed}
+use Rattle.sweep_laws.proofs.Leaving.{looks_meet_none}
 
 -- pairs with two lists behind each other, in two parts
 
@@ -109,9 +110,11 @@ pub accounted : (w : Setup) (t : Trailed) (lines sorted : List FlowLine) → IsS
     → IsNonDecreasingBy (λ l. l.sums.first_no) sorted → AccountsFor w t sorted
 accounted w t lines sorted d laid e p rising =
     let by_rounds = went_by_rounds w d (histories_of t) e.lawful.scripted e.rounds in record {
+      setup = d;
       lawful = record { layout = laid; histories = e.lawful };
       rounds = by_rounds;
       later = put_later w d (histories_of t) e.lawful.scripted by_rounds.in_rounds;
+      stays = λ b h. looks_meet_none w (histories_of t) e.lawful.scripted d by_rounds b h;
       records = records_of_run w (histories_of t) lines sorted d e p rising;
       accounts = accounts_over w (histories_of t) d e.lawful;
     }

@@ -6,3 +6,4 @@ pub mod Parting
 pub mod Closing
 pub mod Leaving
 pub mod Accounting
+pub mod Plain

@@ -36,7 +36,9 @@ use Rattle.tcp_session.specs.contracts.classes.Class.{the_field as class_field}
 use Rattle.tcp_session.specs.contracts.state.State.{the_field as state_field}
 use Rattle.flow_sum.specs.contracts.sums.Sums.{the_field as sums_field, the_type as sums_type}
 use Rattle.flow_sum.specs.contracts.dir.Dir.{the_field as dir_field}
-use Rattle.reassembly.specs.contracts.spot.Spot.{the_row as spot_row}
+use Rattle.segment_tree.specs.contracts.spot.Spot.{the_row as spot_row}
+use Rattle.segment_tree.specs.contracts.tree.SegmentTree.TheInside as tree_inside
+use Rattle.segment_tree.specs.contracts.tree.SegmentTree.{the_row as tree_row}
 use Rattle.sha1.specs.contracts.Sha1.{the_field as digest_field}
 use Rattle.reassembly.specs.contracts.stream.Stream.TheInside as stream_inside
 use Rattle.reassembly.specs.contracts.stream.Stream.{the_row as stream_row}
@@ -84,6 +86,9 @@ segment_send = as_row_send link_field node_send
 chain_send : IsSend chain_row
 chain_send = view_send chain_inside.the_row _ _ _ _ (recorded_send (chain_inside.the_field).row _ _ (chain_inside.the_type).to_one (struct_send (shape chain_inside.the_type) (option.the_field_send _ (Box-send _ segment_send), tt)))
 
+tree_send : IsSend tree_row
+tree_send = view_send tree_inside.the_row _ _ _ _ (recorded_send (tree_inside.the_field).row _ _ (tree_inside.the_type).to_one (struct_send (shape tree_inside.the_type) (option.the_field_send _ (Box-send _ segment_send), tt)))
+
 number_send : IsSend u32
 number_send = search sendable
 
@@ -95,7 +100,7 @@ spot_send = search sendable depth 20
 
 stream_send : IsSend stream_row
 stream_send = view_send stream_inside.the_row _ _ _ _ (recorded_send (stream_inside.the_field).row _ _ (stream_inside.the_type).to_one (struct_send (shape stream_inside.the_type)
-    (search sendable, (option.the_field_send u32 number_send, (search sendable, (digest_send, (chain_send, (chain_send, (search sendable, (option.the_field_send _ spot_send, tt))))))))))
+    (search sendable, (option.the_field_send u32 number_send, (search sendable, (digest_send, (tree_send, (chain_send, (search sendable, (option.the_field_send _ spot_send, tt))))))))))
 
 vlans_send : IsSend vlans_field.row
 vlans_send = search sendable depth 20

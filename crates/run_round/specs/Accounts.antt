@@ -11,6 +11,7 @@ use Rattle.run_laws.specs.Causes.{IsRefusedFor}
 use Rattle.run_laws.specs.Ends.{HasCause}
 use Rattle.run_laws.specs.Placing.{IsCountedOnce}
 use Rattle.run_laws.specs.Returning.{AreReturned, IsGivenBack}
+use Rattle.run_laws.specs.Setting.{IsSetup}
 use Rattle.run_round.specs.Leaving.{LeavesOnce}
 use Rattle.run_rules.specs.Histories.{Histories, bucket_at, histories_of}
 use Rattle.run_rules.specs.Lawful.{AreLawful, IsLawful}
@@ -30,6 +31,7 @@ use Rattle.suri_base.specs.declared.entry.PoolNote.TheVariants.{Put, Turn}
 use Rattle.suri_base.specs.declared.facts.Facts.{Facts}
 use Rattle.suri_base.specs.declared.key.Key.{Key}
 use Rattle.suri_base.specs.declared.layout.Layout.{Layout}
+use Rattle.sweep_laws.specs.Sweeping.{LooksMeetNoneExpired}
 
 abbrev pub setup_for : Captured → Layout → Setup
 setup_for c l = record { capture = c; layout = l }
@@ -65,9 +67,13 @@ pub record AccountsOver (w : Setup) (t : Histories) : Type 0 where
 
 -- the trail and the records of a run, whatever the order in which the roles had the locks
 pub record AccountsFor (w : Setup) (t : Trailed) (lines : List FlowLine) : Type 0 where
+  -- the parts of the capture fit together, and the numbers of the layout are such as the options allow
+  pub setup : IsSetup w
   pub lawful : IsLawful w t
   pub rounds : WentByRounds w (histories_of t) lawful.histories.scripted
   -- what the recycler and the end role give back had left in an earlier round, or the end role drained it
   pub later : ArePutLater w (histories_of t) lawful.histories.scripted rounds.in_rounds
+  -- no run that had expired at the clock of a round stays linked: each look of the next round comes after the round's sweep, and meets none
+  pub stays : (b : ℕ) → b < length (histories_of t).buckets → LooksMeetNoneExpired (fixed_at w b) (bucket_at b (histories_of t).buckets)
   pub records : AreRecords w (histories_of t) lines
   pub accounts : AccountsOver w (histories_of t)

@@ -2,3 +2,4 @@ pub mod Handing
 pub mod Closing
 pub mod Accounts
 pub mod Leaving
+pub mod Quiet

@@ -4,6 +4,7 @@
 mod end;
 mod hands;
 mod play;
+mod quiet;
 mod rounds;
 mod run;
 #[cfg(test)]
@@ -16,4 +17,5 @@ mod test_runs;
 mod tests;
 mod works;
 
+pub use quiet::quiet_runs_are_plain;
 pub use run::{run_capture, run_with};

@@ -1,14 +1,17 @@
 //! A whole run.
 ghost use Rattle.end_laws.specs.Ended.{IsRunEnd};
+ghost use Rattle.quiet_limits.specs.Payloads.{tcp_payloads};
 ghost use Rattle.role_steps.specs.Roles.{setup_of};
 ghost use Rattle.round_laws.specs.Between.{Between};
 ghost use Rattle.run_laws.specs.Setting.{IsLayout};
 ghost use Rattle.run_round.specs.Accounts.{AccountsFor, setup_for};
+ghost use Rattle.run_round.specs.Quiet.{ArePlainRecords};
 ghost use Rattle.run_rules.specs.Histories.{histories_of};
+ghost use Rattle.run_rules.specs.Quiet.{IsQuiet};
 ghost use Rattle.run_rules.specs.Setup.{rounds};
-ghost use Rattle.std.specs.Prelude.{◌≡◌, ◌*◌, ◌^◌, ◌<◌, ◌≤◌, IfOk};
+ghost use Rattle.std.specs.Prelude.{◌≡◌, ◌*◌, ◌^◌, ◌<◌, ◌≤◌, IfOk, length};
 ghost use Rattle.std.specs.List.Sorted.{IsNonDecreasingBy, IsPermutation};
-ghost use Rattle.suri_base.specs.Capture.{IsCapture};
+ghost use Rattle.suri_base.specs.Capture.{IsCapture, packets_in};
 
 use crate::end::{finish_all, take_apart};
 use crate::hands::take_waiting;
@@ -72,7 +75,13 @@ pub fn run_with<R: Threads + Wait + Sync, G: Gate + Sync>(
     requires capture { IsCapture capture.now }
     requires layout { IsLayout layout }
     requires few { rounds (setup_for capture.now layout) * layout.rows ≤ 2 ^ 24 }
-    ensures { IfOk result (λ t. AccountsFor (setup_for capture.now layout) t.1 t.0.items) }
+    // Trail and records account for the capture, whatever the order in which the roles had the locks.
+    ensures accounts { IfOk result (λ t. AccountsFor (setup_for capture.now layout) t.1 t.0.items) }
+    // Where neither pool was ever full, the records are those of the plain runs of the capture.
+    ensures quiet { IfOk result (λ t. IsQuiet (histories_of t.1) → ArePlainRecords layout.depth capture.now t.0.items) }
+    // Neither pool is ever full where there may be as many flows as the capture has packets, and as many nodes as it has TCP segments with payload.
+    ensures wide { IfOk result (λ t. length (packets_in capture.now.seen) ≤ layout.memcap → length (tcp_payloads capture.now.seen) ≤ layout.segments
+        → IsQuiet (histories_of t.1)) }
 {
     let count = rounds(capture, layout.round);
     let (shared, mut roles, mut ender) = start(alloc, capture, layout, prealloc)?;
@@ -102,7 +111,13 @@ pub fn run_capture<R: Threads + Wait + Sync, G: Gate + Sync>(
     requires capture { IsCapture capture.now }
     requires layout { IsLayout options.now.layout }
     requires few { rounds (setup_for capture.now options.now.layout) * options.now.layout.rows ≤ 2 ^ 24 }
-    ensures { IfOk result (λ t. AccountsFor (setup_for capture.now options.now.layout) t.1 t.0.items) }
+    // Trail and records account for the capture, whatever the order in which the roles had the locks.
+    ensures accounts { IfOk result (λ t. AccountsFor (setup_for capture.now options.now.layout) t.1 t.0.items) }
+    // Where neither pool was ever full, the records are those of the plain runs of the capture, whatever the workers, batches, rounds and rows.
+    ensures quiet { IfOk result (λ t. IsQuiet (histories_of t.1) → ArePlainRecords options.now.layout.depth capture.now t.0.items) }
+    // Neither pool is ever full where there may be as many flows as the capture has packets, and as many nodes as it has TCP segments with payload.
+    ensures wide { IfOk result (λ t. length (packets_in capture.now.seen) ≤ options.now.layout.memcap → length (tcp_payloads capture.now.seen) ≤ options.now.layout.segments
+        → IsQuiet (histories_of t.1)) }
 {
     let threads = options.layout.workers as usize + 2;
     run_with(

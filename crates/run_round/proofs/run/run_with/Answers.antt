@@ -1,10 +1,12 @@
 use Rattle.std.proofs.Common.{List, sym, ap, ◌∙◌, subst}
+use Rattle.quiet_limits.proofs.Limits.{quiet}
 use Rattle.role_meets.specs.declared.roles.Role.{Role}
 use Rattle.round_laws.specs.Between.{Between}
 use Rattle.end_laws.specs.Ended.{IsRunEnd}
 use Rattle.round_laws.proofs.Beginning.{begins}
 use Rattle.role_steps.specs.Roles.{setup_of}
 use Rattle.run_round.proofs.Accounting.{accounted}
+use Rattle.run_round.proofs.Plain.{quiet_records}
 use Rattle.run_round.proofs.Rounding.{still}
 use Rattle.run_round.specs.Accounts.{setup_for}
 use Rattle.run_rules.specs.Histories.{histories_of}
@@ -33,7 +35,12 @@ close-requires g c =
 pub returns : goal.returns
 returns g c =
     let w : Setup = setup_for c.args.capture.now c.args.layout in
-    accounted w c.in_ok-lines.trail c.in_ok-lines.lines.items c.sort_lines.new.lines.items (record { capture = c.requires.capture; layout = c.requires.layout })
+    let accounts = accounted w c.in_ok-lines.trail c.in_ok-lines.lines.items c.sort_lines.new.lines.items (record { capture = c.requires.capture; layout = c.requires.layout })
     (c.in_ok-lines.ensures.layout ∙ ap (λ (x : Setup). x.layout) c.in_ok-shared.ensures.setup)
     (subst (λ (x : Setup). IsRunEnd x (histories_of c.in_ok-lines.trail) c.in_ok-lines.lines.items) c.in_ok-shared.ensures.setup c.in_ok-lines.ensures.ended)
-    c.sort_lines.ensures.same c.sort_lines.ensures.rising
+    c.sort_lines.ensures.same c.sort_lines.ensures.rising in
+    record {
+      accounts = accounts;
+      quiet = quiet_records w c.in_ok-lines.trail c.sort_lines.new.lines.items accounts;
+      wide = λ objects nodes. quiet w (histories_of c.in_ok-lines.trail) accounts.setup accounts.lawful.histories.scripted objects nodes;
+    }
