@@ -4,4 +4,5 @@ pub mod FlowLine
 pub mod NetflowLine
 pub mod Parts
 pub mod StatsLine
+pub mod SummaryLine
 pub mod Time

@@ -121,8 +121,8 @@ fn write_records(out: &mut Writer, stats: &Stats) -> Result<(), NoMemory>
     close(out)
 }
 
-// Writes the object `stats`.
-fn write_stats(out: &mut Writer, stats: &Stats) -> Result<(), NoMemory>
+/// Writes the object `stats`.
+pub fn write_stats(out: &mut Writer, stats: &Stats) -> Result<(), NoMemory>
     ensures { OnOk result
         (WritesData (stats_data stats.now) out.old out.new) }
 {

@@ -43,8 +43,8 @@ fn write_stop(out: &mut Writer, stop: u32) -> Result<(), NoMemory>
     }
 }
 
-// Writes the digest.
-fn write_digest(out: &mut Writer, digest: &[u8; 20]) -> Result<(), NoMemory>
+/// Writes the field `sha1`: a digest in lower-case hexadecimal digits.
+pub fn write_digest(out: &mut Writer, digest: &[u8; 20]) -> Result<(), NoMemory>
     ensures { OnOk result (WritesIf (codes "sha1") (Some (string (encode_lower digest.now)))
         out.old out.new) }
 {

@@ -1,6 +1,6 @@
 //! The lines of records, beside those of a slow model.
 use crate::test_texts::*;
-use crate::{flow_text, netflow_text, stats_text};
+use crate::{Tally, flow_text, netflow_text, stats_text, summary_text};
 use flow_object::FlowLine;
 use flow_sum::{Dir, Sums};
 use run_stats::Stats;
@@ -316,76 +316,92 @@ fn writes_records_as_the_model_does(rt: HostRuntime) -> Result<(), Fail> {
     Ok(())
 }
 
+// Nothing was counted.
+const NOTHING: Stats = Stats {
+    clock: 0,
+    capture_bytes: 0,
+    cut_bytes: 0,
+    frames: 0,
+    ethertype: 0,
+    fragment: 0,
+    icmp_small: 0,
+    ip_extensions: 0,
+    ip_header: 0,
+    ip_small: 0,
+    ip_version: 0,
+    link_small: 0,
+    other_proto: 0,
+    tcp_header: 0,
+    tcp_small: 0,
+    udp_small: 0,
+    vlan_deep: 0,
+    vlan_small: 0,
+    records: 0,
+    packets: 0,
+    flow_bytes: 0,
+    timeout: 0,
+    tcp_reuse: 0,
+    forced: 0,
+    shutdown: 0,
+    emergency: 0,
+    no_flow: 0,
+    memcap_full: 0,
+    segment_full: 0,
+    emergency_entered: 0,
+};
+
+// Each count is another one.
+const ALL: Stats = Stats {
+    // The last microsecond of 28 February 2000, and more.
+    clock: 951_782_399_999_999_999,
+    capture_bytes: u64::MAX,
+    cut_bytes: 102,
+    frames: 4_194_304,
+    ethertype: 104,
+    fragment: 105,
+    icmp_small: 106,
+    ip_extensions: 107,
+    ip_header: 108,
+    ip_small: 109,
+    ip_version: 110,
+    link_small: 111,
+    other_proto: 112,
+    tcp_header: 113,
+    tcp_small: 114,
+    udp_small: 115,
+    vlan_deep: 116,
+    vlan_small: 117,
+    records: 118,
+    packets: 119,
+    flow_bytes: 120,
+    timeout: 121,
+    tcp_reuse: 122,
+    forced: 123,
+    shutdown: 124,
+    emergency: 125,
+    no_flow: 126,
+    memcap_full: 127,
+    segment_full: 128,
+    emergency_entered: 129,
+};
+
 #[test]
 fn writes_counts_as_the_model_does(rt: HostRuntime) -> Result<(), Fail> {
-    let nothing = Stats {
-        clock: 0,
-        capture_bytes: 0,
-        cut_bytes: 0,
-        frames: 0,
-        ethertype: 0,
-        fragment: 0,
-        icmp_small: 0,
-        ip_extensions: 0,
-        ip_header: 0,
-        ip_small: 0,
-        ip_version: 0,
-        link_small: 0,
-        other_proto: 0,
-        tcp_header: 0,
-        tcp_small: 0,
-        udp_small: 0,
-        vlan_deep: 0,
-        vlan_small: 0,
-        records: 0,
-        packets: 0,
-        flow_bytes: 0,
-        timeout: 0,
-        tcp_reuse: 0,
-        forced: 0,
-        shutdown: 0,
-        emergency: 0,
-        no_flow: 0,
-        memcap_full: 0,
-        segment_full: 0,
-        emergency_entered: 0,
-    };
-    let all = Stats {
-        // The last microsecond of 28 February 2000, and more.
-        clock: 951_782_399_999_999_999,
-        capture_bytes: u64::MAX,
-        cut_bytes: 102,
-        frames: 4_194_304,
-        ethertype: 104,
-        fragment: 105,
-        icmp_small: 106,
-        ip_extensions: 107,
-        ip_header: 108,
-        ip_small: 109,
-        ip_version: 110,
-        link_small: 111,
-        other_proto: 112,
-        tcp_header: 113,
-        tcp_small: 114,
-        udp_small: 115,
-        vlan_deep: 116,
-        vlan_small: 117,
-        records: 118,
-        packets: 119,
-        flow_bytes: 120,
-        timeout: 121,
-        tcp_reuse: 122,
-        forced: 123,
-        shutdown: 124,
-        emergency: 125,
-        no_flow: 126,
-        memcap_full: 127,
-        segment_full: 128,
-        emergency_entered: 129,
-    };
-    for (stats, want) in &[(&nothing, NOTHING_COUNTED), (&all, ALL_COUNTED)] {
+    for (stats, want) in &[(&NOTHING, NOTHING_COUNTED), (&ALL, ALL_COUNTED)] {
         let text = stats_text(rt.alloc(), stats)?;
         assert_eq!(rt; str::from_utf8(&text), Ok(*want));
     }
+    Ok(())
+}
+
+#[test]
+fn sums_up_a_text_that_comes_in_pieces(rt: HostRuntime) -> Result<(), Fail> {
+    let mut tally = Tally::new();
+    for piece in &["{}\n", "", "two\nlines", "\n", "\n"] {
+        tally.add(piece.as_bytes());
+    }
+    let (lines, digest) = tally.finish();
+    let text = summary_text(rt.alloc(), &ALL, u64::MAX, 1_000_000, lines, &digest)?;
+    assert_eq!(rt; str::from_utf8(&text), Ok(ALL_SUMMED_UP));
     Ok(())
 }

@@ -1,5 +1,5 @@
 -- The command line: one simple command, what it chooses, and when its words are refused.
-use Rattle.std.specs.Prelude.{◌≡◌, ℕ, List, [], codes, Some, None, Bool, false, ◌<◌, ◌^◌, min, max}
+use Rattle.std.specs.Prelude.{◌≡◌, ℕ, List, [], codes, Some, None, Bool, false, ◌<◌, ◌^◌, min, max, ◌&&◌, if◌then◌else◌, is_some, unwrap_or}
 use Rattle.std.specs.Option.{SomeIff}
 use Rattle.std.specs.Str.{bytes_eq}
 use Rattle.std.specs.Str.Parse.{IsNumeral, digits_value, without_leading_plus}
@@ -52,8 +52,14 @@ app_9 = with_rule app_8 (number_rule (codes "recovery") 1 100)
 abbrev pub app_10 : App
 app_10 = with_rule app_9 (number_rule (codes "seed") 0 65535)
 
+abbrev pub app_11 : App
+app_11 = with_rule app_10 (flag_rule (codes "netflow"))
+
+abbrev pub app_12 : App
+app_12 = with_rule app_11 (number_rule (codes "generate") 0 18446744073709551615)
+
 abbrev pub suri_app : App
-suri_app = with_rule app_10 (flag_rule (codes "netflow"))
+suri_app = with_rule app_12 (number_rule (codes "frames") 1 1000000)
 
 -- the kinds of fault that the command finds in the words; none where it takes them
 abbrev pub faults : List Text → Kinds
@@ -67,12 +73,15 @@ found words = matches_of suri_app words
 abbrev pub given : Text → List Row → Option Text
 given id rows = one_of id rows
 
--- the number that a text spells in decimal digits, behind a plus sign or none, where it is below 2 ^ 32
-abbrev pub IsNumberOf : Option Text → Option ℕ → Type 0
-IsNumberOf None n = n ≡ None
-IsNumberOf (Some t) n =
+-- the number that a text spells in decimal digits, behind a plus sign or none, where it is below 2 to the power of so many bits
+abbrev pub IsNumberIn : ℕ → Option Text → Option ℕ → Type 0
+IsNumberIn bits None n = n ≡ None
+IsNumberIn bits (Some t) n =
     let digits = without_leading_plus t in
-    SomeIff n (IsNumeral 10 digits × (digits_value 10 digits < 2 ^ 32)) (digits_value 10 digits)
+    SomeIff n (IsNumeral 10 digits × (digits_value 10 digits < 2 ^ bits)) (digits_value 10 digits)
+
+abbrev pub IsNumberOf : Option Text → Option ℕ → Type 0
+IsNumberOf text n = IsNumberIn 32 text n
 
 -- the number in its bounds, or the default
 abbrev pub within_bounds : ℕ → ℕ → ℕ → Option ℕ → ℕ
@@ -82,6 +91,22 @@ within_bounds least most default (Some n) = max least (min most n)
 -- an option of these bounds with this default, where it is given this text, is this number
 abbrev pub IsChoice : ℕ → ℕ → ℕ → Option Text → ℕ → Type 0
 IsChoice least most default text n = (o : Option ℕ) × IsNumberOf text o × (n ≡ within_bounds least most default o)
+
+-- an option with any number of 64 bits, where it is given this text, is this number, and else 0
+abbrev pub IsWideChoice : Option Text → ℕ → Type 0
+IsWideChoice text n = (o : Option ℕ) × IsNumberIn 64 text o × (n ≡ unwrap_or o 0)
+
+-- an option is given
+abbrev pub is_given : Text → List Row → Bool
+is_given id rows = is_some (first_of id rows)
+
+-- the seed and the number of frames are given both, or neither is
+abbrev pub ArePaired : List Row → Type 0
+ArePaired rows = is_given (codes "generate") rows ≡ is_given (codes "frames") rows
+
+-- the seed of a generated capture and its number of frames, where both are given
+abbrev pub generates : List Row → ℕ → ℕ → Option (ℕ × ℕ)
+generates rows seed frames = if is_given (codes "generate") rows && is_given (codes "frames") rows then Some (seed, frames) else None
 
 -- a flag is set
 abbrev pub is_set : Option Text → Bool
@@ -106,7 +131,8 @@ pub record AreChoices (rows : List Row) (o : Options) : Type 0 where
   pub seed : IsChoice 0 65535 0 (given (codes "seed") rows) o.seed
   pub netflow : o.netflow ≡ is_set (first_of (codes "netflow") rows)
   pub audit : o.audit ≡ false
-  pub generate : o.generate ≡ None
+  pub generate : (seed frames : ℕ) × IsWideChoice (given (codes "generate") rows) seed × IsChoice 1 1000000 1 (given (codes "frames") rows) frames
+      × (o.generate ≡ generates rows seed frames)
 
 -- the command takes the words, and they choose this
 pub record Chooses (words : List Text) (o : Options) : Type 0 where

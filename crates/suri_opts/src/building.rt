@@ -1,7 +1,7 @@
 //! The command, as clap sees it.
 ghost use Rattle.clap.specs.Words.{app_of, rule_of, with_rule};
 ghost use Rattle.std.specs.Prelude.{◌≡◌, ◌≤ℤ◌, IfOk, false, pos, ℕ};
-ghost use Rattle.suri_opts.specs.Words.{app_6, flag_rule, number_rule, suri_app};
+ghost use Rattle.suri_opts.specs.Words.{app_11, app_6, flag_rule, number_rule, suri_app};
 
 use clap::{Arg, ArgAction, Command, value_parser};
 use std::alloc::{AllocError, Global};
@@ -18,6 +18,17 @@ fn number<'a>(alloc: Global, name: &'a str, least: i64, most: i64) -> Arg<'a>
         .long(name)
         .action(ArgAction::Set)
         .value_parser(value_parser!(u64).range(least..=most))
+}
+
+// An option with any number of 64 bits.
+fn wide_number<'a>(alloc: Global, name: &'a str) -> Arg<'a>
+    ensures rule { rule_of result ≡ number_rule name.entry.now 0 18446744073709551615 }
+    ensures local { result.global ≡ false }
+{
+    Arg::new(alloc, name)
+        .long(name)
+        .action(ArgAction::Set)
+        .value_parser(value_parser!(u64))
 }
 
 // A flag.
@@ -49,9 +60,9 @@ fn sizes<'a>(alloc: Global) -> Result<Command<'a>, AllocError>
     with(command, number(alloc, "prealloc", 0, 1_048_576))
 }
 
-/// The whole command.
-pub fn command<'a>(alloc: Global) -> Result<Command<'a>, AllocError>
-    ensures { IfOk result (λ c. app_of c ≡ suri_app) }
+// The command with all options of a run, whatever capture it is over.
+fn options_of_runs<'a>(alloc: Global) -> Result<Command<'a>, AllocError>
+    ensures { IfOk result (λ c. app_of c ≡ app_11) }
 {
     let command = sizes(alloc)?;
     let command = with(command, number(alloc, "segments", 0, 1_048_576))?;
@@ -59,4 +70,13 @@ pub fn command<'a>(alloc: Global) -> Result<Command<'a>, AllocError>
     let command = with(command, number(alloc, "recovery", 1, 100))?;
     let command = with(command, number(alloc, "seed", 0, 65_535))?;
     with(command, flag(alloc, "netflow"))
+}
+
+/// The whole command.
+pub fn command<'a>(alloc: Global) -> Result<Command<'a>, AllocError>
+    ensures { IfOk result (λ c. app_of c ≡ suri_app) }
+{
+    let command = options_of_runs(alloc)?;
+    let command = with(command, wide_number(alloc, "generate"))?;
+    with(command, number(alloc, "frames", 1, 1_000_000))
 }

@@ -6,22 +6,32 @@ ghost use Rattle.std.specs.Prelude.{
   ◌≤◌,
   ◌<◌,
   ◌⊎◌,
+  ◌&&◌,
   [],
+  Decides,
   Err,
   IfErr,
   IfOk,
+  codes,
+  is_some,
   map,
   string_bytes,
   ℕ,
 };
 ghost use Rattle.suri_opts.specs.Words.{
   AreChoices,
+  ArePaired,
   AreSizes,
   Chooses,
   IsChoice,
+  IsNumberIn,
   IsNumberOf,
+  IsWideChoice,
   faults,
+  found,
+  generates,
   given,
+  is_given,
   is_set,
   within_bounds,
 };
@@ -41,11 +51,39 @@ fn number_read(matches: &ArgMatches<'_>, id: &str) -> Option<u32>
     matches.get_one::<u32>(id)
 }
 
+// The same for a number of 64 bits.
+fn wide_number_read(matches: &ArgMatches<'_>, id: &str) -> Option<u64>
+    ensures { IsNumberIn 64 (one_text (found_of matches.now) id.now) result }
+{
+    matches.get_one::<u64>(id)
+}
+
 // The number of an option, where one was given.
 fn number_given(matches: &ArgMatches<'_>, id: &str) -> Option<u32>
     ensures { IsNumberOf (given id.now (rows_of (found_of matches.now))) result }
 {
     number_read(matches, id)
+}
+
+// The same for a number of 64 bits.
+fn wide_number_given(matches: &ArgMatches<'_>, id: &str) -> Option<u64>
+    ensures { IsNumberIn 64 (given id.now (rows_of (found_of matches.now))) result }
+{
+    wide_number_read(matches, id)
+}
+
+// Whether an option has a text.
+fn has_text(matches: &ArgMatches<'_>, id: &str) -> bool
+    ensures { result ≡ is_some (first_value (found_of matches.now) id.now) }
+{
+    matches.get_str(id).is_some()
+}
+
+// Whether an option is given.
+fn is_given(matches: &ArgMatches<'_>, id: &str) -> bool
+    ensures { result ≡ is_given id.now (rows_of (found_of matches.now)) }
+{
+    has_text(matches, id)
 }
 
 // Whether the text of a flag says that it is set.
@@ -90,6 +128,43 @@ fn choice(matches: &ArgMatches<'_>, id: &str, least: u32, most: u32, default: u3
     bounded(number_given(matches, id), least, most, default)
 }
 
+// The number of 64 bits of an option, or 0.
+fn wide_choice(matches: &ArgMatches<'_>, id: &str) -> u64
+    ensures { IsWideChoice (given id.now (rows_of (found_of matches.now))) result }
+{
+    wide_number_given(matches, id).unwrap_or(0)
+}
+
+// Whether both options of a generated capture are given.
+fn are_both_given(matches: &ArgMatches<'_>) -> bool
+    ensures { result ≡ (is_given (codes "generate") (rows_of (found_of matches.now))
+        && is_given (codes "frames") (rows_of (found_of matches.now))) }
+{
+    is_given(matches, "generate") && is_given(matches, "frames")
+}
+
+// Which capture is to be generated, where one is.
+fn generated(matches: &ArgMatches<'_>) -> Option<(u64, u32)>
+    ensures { (seed frames : ℕ) × IsWideChoice (given (codes "generate") (rows_of (found_of matches.now))) seed
+        × IsChoice 1 1000000 1 (given (codes "frames") (rows_of (found_of matches.now))) frames
+        × (result ≡ generates (rows_of (found_of matches.now)) seed frames) }
+{
+    let seed = wide_choice(matches, "generate");
+    let frames = choice(matches, "frames", 1, 1_000_000, 1);
+    if are_both_given(matches) {
+        Some((seed, frames))
+    } else {
+        None
+    }
+}
+
+// Whether both options of a generated capture are given, or neither is.
+fn are_paired(matches: &ArgMatches<'_>) -> bool
+    ensures { Decides result (ArePaired (rows_of (found_of matches.now))) }
+{
+    is_given(matches, "generate") == is_given(matches, "frames")
+}
+
 // How the run is to be laid out.
 fn sizes(matches: &ArgMatches<'_>) -> Layout
     ensures { AreSizes (rows_of (found_of matches.now)) result }
@@ -119,7 +194,7 @@ fn chosen(matches: &ArgMatches<'_>) -> Options
         seed: seed as u16,
         netflow: flag_given(matches, "netflow"),
         audit: false,
-        generate: None,
+        generate: generated(matches),
     }
 }
 
@@ -134,15 +209,17 @@ fn word_fault(error: &Error) -> WordFault
     }
 }
 
-// Reads the words, whether or not the choices fit together.
-fn read(alloc: Global, words: &[String]) -> Result<Options, WordFault>
+// Reads the words, whether or not the choices fit together. It tells with them whether both options of a generated
+// capture were given or neither.
+fn read(alloc: Global, words: &[String]) -> Result<(Options, bool), WordFault>
     ensures refused { result ≡ Err WordFault.Refused → faults (map string_bytes words.now) ≢ [] }
-    ensures chosen { IfOk result (λ o. Chooses (map string_bytes words.now) o) }
+    ensures chosen { IfOk result (λ r. Chooses (map string_bytes words.now) r.0) }
+    ensures paired { IfOk result (λ r. Decides r.1 (ArePaired (found (map string_bytes words.now)))) }
     ensures kind { IfErr result (λ e. (e ≡ WordFault.Refused) ⊎ (e ≡ WordFault.NoMemory)) }
 {
     let suri = command(alloc)?;
     match suri.try_get_matches_from(words) {
-        Ok(matches) => Ok(chosen(&matches)),
+        Ok(matches) => Ok((chosen(&matches), are_paired(&matches))),
         Err(error) => Err(word_fault(&error)),
     }
 }
@@ -155,24 +232,32 @@ fn read(alloc: Global, words: &[String]) -> Result<Options, WordFault>
 /// # Errors
 ///
 /// `Refused` where clap refuses the words, a word that asks for help among them; else `Rows` where the rows exceed
-/// `memcap`, defaults included. `NoMemory` where there is none to read the words.
+/// `memcap`, defaults included; else `Pair` where one of `--generate` and `--frames` stands without the other.
+/// `NoMemory` where there is none to read the words.
 pub fn options(alloc: Global, words: &[String]) -> Result<Options, WordFault>
     // Words are refused where the command finds a fault in them.
     ensures refused { result ≡ Err WordFault.Refused → faults (map string_bytes words.now) ≢ [] }
-    // They are taken where it finds none, and the rows are at most the flows.
-    ensures chosen { IfOk result (λ o. Chooses (map string_bytes words.now) o × (o.layout.rows ≤ o.layout.memcap)) }
+    // They are taken where it finds none, the rows are at most the flows, and a generated capture has its seed and its number of frames.
+    ensures chosen { IfOk result (λ o. Chooses (map string_bytes words.now) o × (o.layout.rows ≤ o.layout.memcap)
+        × ArePaired (found (map string_bytes words.now))) }
     // Where it finds none and the rows exceed the flows, both numbers are told.
     ensures rows { (rows memcap : ℕ) → result ≡ Err (WordFault.Rows rows memcap)
         → (o : Options) × Chooses (map string_bytes words.now) o
         × (o.layout.rows ≡ rows) × (o.layout.memcap ≡ memcap) × (memcap < rows) }
+    // Where neither is so, and one of the two numbers of a generated capture stands without the other, they are refused too.
+    ensures pair { result ≡ Err WordFault.Pair
+        → (o : Options) × Chooses (map string_bytes words.now) o × (o.layout.rows ≤ o.layout.memcap) × ¬ ArePaired (found (map string_bytes words.now)) }
 {
-    let options = read(alloc, words)?;
+    let (options, paired) = read(alloc, words)?;
     let layout = options.layout;
     if layout.rows > layout.memcap {
         return Err(WordFault::Rows {
             rows: layout.rows,
             memcap: layout.memcap,
         });
+    }
+    if !paired {
+        return Err(WordFault::Pair);
     }
     Ok(options)
 }

@@ -137,7 +137,7 @@ fn takes_all_options_at_once(rt: HostRuntime) -> Result<(), Fail> {
 
 #[test]
 fn refuses_what_is_no_command_line(rt: HostRuntime) -> Result<(), Fail> {
-    let table: [&[&str]; 50] = [
+    let table: [&[&str]; 53] = [
         &["--workers=0"],
         &["--workers", "65"],
         &["--batch=0"],
@@ -176,8 +176,11 @@ fn refuses_what_is_no_command_line(rt: HostRuntime) -> Result<(), Fail> {
         &["-n"],
         &["--Workers=1"],
         &["--audit"],
-        &["--generate=7"],
-        &["--frames=3"],
+        &["--generate=-1", "--frames=3"],
+        &["--generate=18446744073709551616", "--frames=3"],
+        &["--generate=7", "--frames=0"],
+        &["--generate=7", "--frames=1000001"],
+        &["--frames=3", "--workers=0"],
         &["--help"],
         &["-h"],
         &["help"],
@@ -196,9 +199,42 @@ fn refuses_what_is_no_command_line(rt: HostRuntime) -> Result<(), Fail> {
 }
 
 #[test]
+fn takes_a_seed_and_a_number_of_frames(rt: HostRuntime) -> Result<(), Fail> {
+    let table: [(&[&str], u64, u32); 3] = [
+        (&["--generate", "7", "--frames", "50000"], 7, 50_000),
+        (&["--frames=1", "--generate=0"], 0, 1),
+        (
+            &["--generate=18446744073709551615", "--frames=1000000"],
+            18_446_744_073_709_551_615,
+            1_000_000,
+        ),
+    ];
+    for (words, seed, frames) in &table {
+        let mut want = DEFAULTS;
+        want.generate = Some((*seed, *frames));
+        assert_eq!(rt; chosen(rt.alloc(), words)?, Ok(want));
+    }
+    Ok(())
+}
+
+#[test]
+fn tells_one_of_the_two_that_stands_alone(rt: HostRuntime) -> Result<(), Fail> {
+    let table: [&[&str]; 3] = [
+        &["--frames", "3"],
+        &["--generate", "7"],
+        &["--generate=0", "--netflow"],
+    ];
+    for words in &table {
+        assert_eq!(rt; chosen(rt.alloc(), words)?, Err(WordFault::Pair));
+    }
+    Ok(())
+}
+
+#[test]
 fn tells_rows_that_exceed_the_flows(rt: HostRuntime) -> Result<(), Fail> {
-    let table: [(&[&str], u32, u32); 4] = [
+    let table: [(&[&str], u32, u32); 5] = [
         (&["--rows", "10", "--memcap", "5"], 10, 5),
+        (&["--rows=10", "--memcap=5", "--frames=3"], 10, 5),
         (&["--memcap", "5"], 1_024, 5),
         (&["--memcap=1023"], 1_024, 1_023),
         (

@@ -17,7 +17,7 @@ pub struct Options {
     pub netflow: bool,
     /// Whether the histories of the run are written. No word asks for them yet.
     pub audit: bool,
-    /// The seed of a generated capture and its number of frames. No word asks for one yet.
+    /// The seed of a generated capture and its number of frames, where one is asked for.
     pub generate: Option<(u64, u32)>,
 }
 
@@ -28,6 +28,8 @@ pub enum WordFault {
     Refused,
     /// There are more buckets than flows may be.
     Rows { rows: u32, memcap: u32 },
+    /// The seed of a generated capture stands without its number of frames, or the number without the seed.
+    Pair,
     /// There was no memory to read them.
     NoMemory,
 }

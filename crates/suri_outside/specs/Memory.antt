@@ -1,5 +1,5 @@
 -- What contracts see of sources and a sink in memory.
-use Rattle.std.specs.Prelude.{ℕ, ◌-◌, List, ◌++◌, drop, take}
+use Rattle.std.specs.Prelude.{ℕ, ◌-◌, ◌<◌, List, ◌++◌, Contains, drop, length, take}
 use Rattle.suri_outside.specs.Faults.{risen}
 
 -- a source: the bytes left, the most that one call gives, the calls that fail, and the calls and the faults so far
@@ -10,12 +10,14 @@ pub record SourceState : Type 0 where
   pub calls : ℕ
   pub faults : ℕ
 
--- a sink: the bytes taken, the room in all, the most that one call takes, the calls that fail, and the calls and the faults so far
+-- a sink: the bytes taken, the room in all, the most that one call takes, the calls that fail, those that take nothing, and the calls and the
+-- faults so far
 pub record SinkState : Type 0 where
   pub bytes : List ℕ
   pub room : ℕ
   pub most : ℕ
   pub failing : List ℕ
+  pub idling : List ℕ
   pub calls : ℕ
   pub faults : ℕ
 
@@ -46,17 +48,28 @@ after_taking s n bytes = record {
   room = s.room;
   most = s.most;
   failing = s.failing;
+  idling = s.idling;
   calls = risen s.calls;
   faults = s.faults;
 }
 
--- the sink after a call that failed
+-- the sink's next call, with these bytes, takes nothing of them, and doesn't fail
+pub record Idles (s : SinkState) (bytes : List ℕ) : Type 0 where
+  pub some : 0 < length bytes
+  pub listed : Contains s.idling (risen s.calls)
+
+-- the sink's next call doesn't idle
+abbrev pub Takes : SinkState → List ℕ → Type 0
+Takes s bytes = Idles s bytes → ⊥
+
+-- the sink after a call that failed, or that took nothing of some bytes
 abbrev pub after_failed_write : SinkState → SinkState
 after_failed_write s = record {
   bytes = s.bytes;
   room = s.room;
   most = s.most;
   failing = s.failing;
+  idling = s.idling;
   calls = risen s.calls;
   faults = risen s.faults;
 }

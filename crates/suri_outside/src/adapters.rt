@@ -16,7 +16,7 @@ ghost use Rattle.std.specs.Prelude.{
 };
 ghost use Rattle.suri_outside.specs.Adapters.{reader_of, read_faults, writer_of, write_faults};
 ghost use Rattle.suri_outside.specs.Bytes.{TakesFront};
-ghost use Rattle.suri_outside.specs.Faults.{HasCause, Rose};
+ghost use Rattle.suri_outside.specs.Faults.{HasCause, HasWriteCause, Rose};
 
 use crate::{Failed, Sink, Source};
 use std::io::{Read, Write};
@@ -105,9 +105,7 @@ impl<W: Write> Sink for StdSink<W> {
     fn write(&mut self, bytes: &[u8]) -> Result<usize, Failed>
         ensures bound { WritesAtMost result bytes.now }
         ensures bytes { WriteAppends None None result bytes.now }
-        ensures cause { HasCause (write_faults self.old) (write_faults self.new) result }
-        ensures idle { result ≡ Ok 0 → 0 < length bytes.now
-            → Rose (write_faults self.old) (write_faults self.new) }
+        ensures cause { HasWriteCause (write_faults self.old) (write_faults self.new) bytes.now result }
         // What the writer took, where it tells its own bytes.
         ensures passed { IfOk result (λ n. Appends (W.contents (writer_of self.old))
             (W.contents (writer_of self.new)) (take n bytes.now)) }

@@ -18,8 +18,10 @@ ghost use Rattle.std.specs.Prelude.{
   Ok,
   Some,
 };
-ghost use Rattle.suri_outside.specs.Faults.{HasCause, Rose, risen};
+ghost use Rattle.suri_outside.specs.Faults.{HasCause, HasWriteCause, risen};
 ghost use Rattle.suri_outside.specs.Memory.{
+  Idles,
+  Takes,
   after_failed_read,
   after_failed_write,
   after_gift,
@@ -120,13 +122,15 @@ impl Source for MemSource {
 /// Room in memory for bytes that are written. It tells the bytes taken.
 ///
 /// Its writes are numbered from 1. A write fails, and the count of faults rises, exactly at those
-/// listed, and at bytes that aren't none once the room is full.
+/// listed, and at bytes that aren't none once the room is full. Others can be listed that take
+/// nothing of bytes that aren't none, and let the count rise, but don't fail.
 #[derive(Drop)]
 pub struct MemSink {
     bytes: Vec<u8>,
     room: usize,
     most: usize,
     failing: Vec<u64>,
+    idling: Vec<u64>,
     calls: u64,
     faults: u64,
 }
@@ -142,6 +146,7 @@ impl Model for MemSink {
       room = s.room;
       most = s.most;
       failing = s.failing.items;
+      idling = s.idling.items;
       calls = s.calls;
       faults = s.faults;
     } };
@@ -165,6 +170,7 @@ impl MemSink {
           room = room;
           most = most;
           failing = failing.items;
+          idling = [];
           calls = 0;
           faults = 0;
         }) }
@@ -175,6 +181,39 @@ impl MemSink {
             room,
             most,
             failing,
+            idling: Vec::new(alloc),
+            calls: 0,
+            faults: 0,
+        })
+    }
+
+    /// A sink as that of [`MemSink::new`], but that takes nothing of bytes that aren't none at the
+    /// writes whose numbers, counted from 1, are in `idling`: these answer `Ok(0)`, and the count of
+    /// faults rises.
+    pub fn idle(
+        alloc: Global,
+        room: usize,
+        most: usize,
+        idling: Vec<u64>,
+    ) -> Result<MemSink, NoMemory>
+        requires { 1 ≤ most }
+        ensures { IfOk result (λ s. s ≡ record {
+          bytes = [];
+          room = room;
+          most = most;
+          failing = [];
+          idling = idling.items;
+          calls = 0;
+          faults = 0;
+        }) }
+    {
+        let bytes = Vec::with_capacity(alloc, room)?;
+        Ok(MemSink {
+            bytes,
+            room,
+            most,
+            failing: Vec::new(alloc),
+            idling,
             calls: 0,
             faults: 0,
         })
@@ -198,18 +237,22 @@ impl Sink for MemSink {
     fn write(&mut self, bytes: &[u8]) -> Result<usize, Failed>
         ensures bound { WritesAtMost result bytes.now }
         ensures bytes { WriteAppends (Some self.old.bytes) (Some self.new.bytes) result bytes.now }
-        ensures cause { HasCause self.old.faults self.new.faults result }
-        ensures idle { result ≡ Ok 0 → 0 < length bytes.now → Rose self.old.faults self.new.faults }
+        ensures cause { HasWriteCause self.old.faults self.new.faults bytes.now result }
 
-        ensures fails { IsErr result ↔ (Contains self.old.failing (risen self.old.calls)
+        ensures idles { Idles self.old bytes.now → (result ≡ Ok 0) × (self.new ≡ after_failed_write self.old) }
+        ensures fails { Takes self.old bytes.now → IsErr result ↔ (Contains self.old.failing (risen self.old.calls)
             ⊎ ((0 < length bytes.now) × (length self.old.bytes ≡ self.old.room))) }
-        ensures takes { IfOk result
+        ensures takes { Takes self.old bytes.now → IfOk result
             (λ n. n ≡ min self.old.most (min (length bytes.now) (self.old.room - length self.old.bytes))) }
-        ensures after_ok { IfOk result (λ n. self.new ≡ after_taking self.old n bytes.now) }
+        ensures after_ok { Takes self.old bytes.now → IfOk result (λ n. self.new ≡ after_taking self.old n bytes.now) }
         ensures after_err { OnErr result (self.new ≡ after_failed_write self.old) }
     {
         self.calls = self.calls.saturating_add(1);
         let call = self.calls;
+        if self.idling.contains(&call) && !bytes.is_empty() {
+            self.faults = self.faults.saturating_add(1);
+            return Ok(0);
+        }
         let room = self.room - self.bytes.len();
         if self.failing.contains(&call) || (room == 0 && !bytes.is_empty()) {
             self.faults = self.faults.saturating_add(1);

@@ -150,6 +150,20 @@ fn sink_in_memory_takes_parts_and_fails_as_listed(rt: HostRuntime) -> Result<(),
 }
 
 #[test]
+fn sink_in_memory_takes_nothing_as_listed(rt: HostRuntime) -> Result<(), Fail> {
+    let alloc = rt.alloc();
+    let mut sink = MemSink::idle(alloc, 25, 10, vec![in alloc; 2]?)?;
+    assert_eq!(rt; sink.write(b""), Ok(0));
+    for want in [Ok(0), Ok(3)] {
+        assert_eq!(rt; sink.write(b"abc"), want);
+    }
+    let mut sink = MemSink::idle(alloc, 25, 10, vec![in alloc; 2]?)?;
+    assert_eq!(rt; write_whole(&mut sink, b"0123456789abc"), Err(Failed));
+    assert_eq!(rt; sink.bytes(), b"0123456789".as_slice());
+    Ok(())
+}
+
+#[test]
 fn source_is_read_to_its_end(rt: HostRuntime) -> Result<(), Fail> {
     let alloc = rt.alloc();
     let text = b"forty bytes, or whatever number there is";

@@ -1,8 +1,8 @@
 //! Sources and sinks of bytes, and what they promise.
 ghost use Rattle.std.specs.Io.{ReadsAtMost, WritesAtMost};
 ghost use Rattle.std.specs.Io.KnownBytes.{ReadConsumes, WriteAppends};
-ghost use Rattle.std.specs.Prelude.{◌≡◌, ◌<◌, ℕ, List, Option, length, Ok};
-ghost use Rattle.suri_outside.specs.Faults.{HasCause, Rose};
+ghost use Rattle.std.specs.Prelude.{ℕ, List, Option};
+ghost use Rattle.suri_outside.specs.Faults.{HasCause, HasWriteCause};
 
 /// A read or a write that failed.
 #[derive(Clone, Copy, Debug, PartialEq, Eq)]
@@ -40,11 +40,10 @@ pub trait Sink {
 
     /// Takes the first of the bytes, and answers how many these are: at most `bytes.len()`.
     /// `Failed`, and `Ok(0)` on bytes that aren't none, come only where the count of faults rose by
-    /// one in this call, or stands at its type's end; then nothing was taken. `Ok` leaves the count
-    /// as it was.
+    /// one in this call, or stands at its type's end; then nothing was taken. Any other `Ok` leaves
+    /// the count as it was.
     fn write(&mut self, bytes: &[u8]) -> Result<usize, Failed>
         ensures bound { WritesAtMost result bytes.now }
         ensures bytes { WriteAppends (taken self.old) (taken self.new) result bytes.now }
-        ensures cause { HasCause (faults self.old) (faults self.new) result }
-        ensures idle { result ≡ Ok 0 → 0 < length bytes.now → Rose (faults self.old) (faults self.new) };
+        ensures cause { HasWriteCause (faults self.old) (faults self.new) bytes.now result };
 }

@@ -4,4 +4,5 @@ pub mod Complete
 pub mod Naming
 pub mod OneChoice
 pub mod Outputs
+pub mod Quiet
 pub mod Sending

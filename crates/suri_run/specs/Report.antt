@@ -1,5 +1,5 @@
 -- What is reported of a capture: the flow records of a run of the engine over it, and the counts of the stats line.
-use Rattle.std.specs.Prelude.{◌≡◌, ℕ, ◌+◌, ◌*◌, ◌<◌, ◌≤◌, List, ◌++◌, Ok}
+use Rattle.std.specs.Prelude.{◌≡◌, ℕ, ◌+◌, ◌*◌, ◌<◌, ◌≤◌, List, ◌++◌, Ok, Option, Some, None}
 use Rattle.suri_base.specs.Trail.{Trailed}
 use Rattle.pcap_read.specs.File.{CaptureFile, Reads}
 use Rattle.flow_object.specs.declared.outcome.FlowLine.{FlowLine}
@@ -10,6 +10,7 @@ use Rattle.run_stats.specs.declared.stats.Stats.{Stats}
 use Rattle.run_counts.specs.Adding.{under_counters}
 use Rattle.run_counts.specs.Counting.{IsStatsOf}
 use Rattle.eve_record.specs.StatsLine.{stats_line}
+use Rattle.eve_record.specs.SummaryLine.{summary_of}
 use Rattle.record_texts.specs.Lines.{lines_of}
 use Rattle.suri_opts.specs.declared.types.Options.{Options}
 
@@ -41,3 +42,11 @@ pub record AreMany (o : Options) (bytes : List ℕ) (count table_rows : ℕ) : T
 -- the whole text: the lines of the records, and then the stats line
 abbrev pub text_of : Options → List FlowLine → Stats → List ℕ
 text_of o lines stats = lines_of o.seed o.netflow lines ++ stats_line stats
+
+-- what is written: the text, or, where a capture was generated from this seed and so many frames, the summary of the text
+abbrev pub written_for : Option (ℕ × ℕ) → Stats → List ℕ → List ℕ
+written_for None stats text = text
+written_for (Some g) stats text = summary_of stats g.0 g.1 text
+
+abbrev pub output_of : Options → List FlowLine → Stats → List ℕ
+output_of o lines stats = written_for o.generate stats (text_of o lines stats)

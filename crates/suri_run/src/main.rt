@@ -1,14 +1,20 @@
-//! Reads a capture from standard input, runs the engine over it, and writes its flow lines, netflow lines where they are asked
-//! for, and its stats line to standard output.
+//! Reads a capture from standard input, or makes one from a number, runs the engine over it, and writes its flow lines, netflow
+//! lines where they are asked for, and its stats line to standard output; of a capture that it made, one summary line.
 #![tactic(auto)]
 
+mod capture;
 mod cause;
 mod notes;
 mod ran;
 mod report;
 mod serve;
+mod summing;
 #[cfg(test)]
 mod test_frames;
+#[cfg(test)]
+mod test_generated;
+#[cfg(test)]
+mod test_hostile;
 #[cfg(test)]
 mod test_limits;
 #[cfg(test)]

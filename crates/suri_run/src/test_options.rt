@@ -79,6 +79,7 @@ fn assert_refused(
 #[test]
 fn refused_words_have_their_notes(rt: HostRuntime) -> Result<(), Fail> {
     let refused = "suri_run: words refused\n";
+    let alone = "suri_run: --generate goes with --frames and without --audit\n";
     let cases: [(&[&str], u64, &str); 9] = [
         (
             &["--rows", "10", "--memcap", "5"],
@@ -91,9 +92,9 @@ fn refused_words_have_their_notes(rt: HostRuntime) -> Result<(), Fail> {
             "suri_run: rows 1024 exceed memcap 5\n",
         ),
         (&["--workers", "0"], 0, refused),
-        (&["--frames", "3"], 0, refused),
+        (&["--frames", "3"], 0, alone),
+        (&["--generate", "7"], 0, alone),
         (&["--audit"], 0, refused),
-        (&["--generate", "7"], 0, refused),
         (&["--netflow", "--netflow"], 0, refused),
         (&["x"], 0, refused),
         (&["x"], 2, "suri_ru"),

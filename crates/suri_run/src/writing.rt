@@ -1,15 +1,16 @@
-//! Writing a report: the lines of its records and its stats line, gathered into large blocks.
+//! Writing a report: the lines of its records and its stats line, gathered into large blocks; or its summary.
 ghost use Rattle.std.specs.Io.KnownBytes.{Appends};
 ghost use Rattle.std.specs.Prelude.{◌≡◌, ◌++◌, All, IfErr, IfOk, OnErr, OnOk, flat_map};
 ghost use Rattle.suri_outside.specs.Bytes.{TakesAllBut, TakesFront};
 ghost use Rattle.suri_base.specs.Keys.{IsNameable};
 ghost use Rattle.record_texts.specs.Lines.{lines_of};
-ghost use Rattle.suri_run.specs.Report.{text_of};
+ghost use Rattle.suri_run.specs.Report.{output_of, text_of};
 ghost use Rattle.suri_run.specs.Run.{IsWriteCause};
 ghost use Rattle.eve_record.specs.StatsLine.{stats_line};
 
 use crate::cause::Cause;
 use crate::report::Report;
+use crate::summing::write_summary;
 use eve_record::stats_text;
 use flow_object::FlowLine;
 use record_texts::texts;
@@ -20,11 +21,11 @@ use suri_opts::Options;
 use suri_outside::{Failed, Gathered, Sink};
 
 /// How many records' lines are in memory at once.
-const ROUND: usize = 32_768;
+pub const ROUND: usize = 32_768;
 
 /// How many records' lines are made in one text: about 45 KB of flow lines, so that `malloc` need not ask the system for
 /// each text's memory.
-const PIECE: usize = 64;
+pub const PIECE: usize = 64;
 
 // Sends texts behind what waits.
 fn send_texts<K: Sink>(
@@ -107,9 +108,9 @@ fn send_stats<K: Sink>(
     }
 }
 
-/// Writes the text of a report, whose lines are made by several threads. Where memory runs out or a write fails, a front
-/// of it was written.
-pub fn write_report<K: Sink>(
+// Writes the text of a report, whose lines are made by several threads. Where memory runs out or a write fails, a front
+// of it was written.
+fn write_report<K: Sink>(
     rt: &(impl Threads + Sync),
     alloc: Global,
     sink: &mut K,
@@ -126,4 +127,27 @@ pub fn write_report<K: Sink>(
 {
     let gathered = send_lines(rt, alloc, sink, options, &report.lines)?;
     send_stats(alloc, sink, gathered, &report.stats)
+}
+
+/// Writes what is asked for: the text of a report, or, where its capture was generated, the summary. Where memory runs out or a
+/// write fails, a front of that was written.
+pub fn write_output<K: Sink>(
+    rt: &(impl Threads + Sync),
+    alloc: Global,
+    sink: &mut K,
+    options: &Options,
+    report: &Report,
+) -> Result<(), Cause>
+    requires { All (λ line. IsNameable line.sums.key) report.now.lines.items }
+    ensures ok { OnOk result (Appends (K.taken sink.old) (K.taken sink.new)
+        (output_of options.now report.now.lines.items report.now.stats)) }
+    ensures front { OnErr result (TakesFront (K.taken sink.old) (K.taken sink.new)
+        (output_of options.now report.now.lines.items report.now.stats)) }
+    ensures cause { IfErr result (IsWriteCause (K.faults sink.old) (K.faults sink.new)) }
+    ensures quiet { OnOk result (K.faults sink.new ≡ K.faults sink.old) }
+{
+    match options.generate {
+        None => write_report(rt, alloc, sink, options, report),
+        Some((seed, frames)) => write_summary(rt, alloc, sink, options, report, seed, frames),
+    }
 }

@@ -1,4 +1,4 @@
-use Rattle.std.proofs.Common.{arith, subst, ◌∙◌}
+use Rattle.std.proofs.Common.{arith, inl, subst, ◌∙◌}
 use Rattle.std.proofs.KnownBytes.{Appends-trans}
 use Rattle.std.proofs.lemmas.Grind.{common_steps}
 use Rattle.std.specs.Io.KnownBytes.{Appends}
@@ -13,5 +13,5 @@ loop-written-preserved g c =
       within = grind (arith, common_steps);
       taken = subst (Appends (g.K.Sink.taken c.args.sink.now) (g.K.Sink.taken c.write.new.self)) (take_joined c.args.bytes.now old moved)
           (Appends-trans _ _ _ _ _ c.loop-written.invariant.taken c.in_ok-count.ensures.bytes);
-      quiet = c.in_ok-count.ensures.cause.quiet ∙ c.loop-written.invariant.quiet;
+      quiet = c.in_ok-count.ensures.cause.quiet (inl (grind (arith, common_steps))) ∙ c.loop-written.invariant.quiet;
     }
