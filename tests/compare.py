@@ -20,7 +20,7 @@ PROGRAM = pathlib.Path(__file__).resolve().parent.parent / "bin" / "suri_run"
 
 def wanted(data, words):
     try:
-        return 0, model.text(data, model.options(words)), ""
+        return 0, model.output(data, model.options(words)), ""
     except model.Refused as refused:
         return refused.status, "", f"suri_run: {refused.note}\n"
 

@@ -41,6 +41,11 @@ expect 'a cut capture' 0 tests/runs/cut.txt ''
 header >"$work/input"
 expect 'an empty capture' 0 tests/runs/empty.txt ''
 expect 'more rows than flows' 2 /dev/null 'suri_run: rows 10 exceed memcap 5' --rows 10 --memcap 5
+expect 'frames without a seed' 2 /dev/null 'suri_run: --generate goes with --frames and without --audit' --frames 3
+expect 'a seed without frames' 2 /dev/null 'suri_run: --generate goes with --frames and without --audit' --generate 7
+# the input isn't read: these words go with any
+expect 'a generated capture' 0 crates/suri_run/stdout '' --generate 7 --frames 50000
+expect 'a generated capture, with one worker' 0 crates/suri_run/stdout '' --workers 1 --batch 1 --generate 7 --frames 50000
 expect 'a number out of range' 2 /dev/null 'suri_run: words refused' --workers 0
 # bin/suri_run answers this word itself
 program=crates/suri_run/out/suri_run expect 'a word of the script' 2 /dev/null 'suri_run: words refused' --help
@@ -52,5 +57,18 @@ cp README.md "$work/input"
 expect 'another file' 5 /dev/null "suri_run: capture refused: magic $(head -c 4 README.md | od -An -tx1 | tr -d ' \n')"
 { header; head -c 16 /dev/zero | tr '\0' '\1'; } >"$work/input"
 expect 'a record too long' 5 /dev/null 'suri_run: capture refused: record 1 has length 16843009'
+# the most roles and the least of all else: which packets find no flow is up to the order of the roles, but each frame is counted once
+"$program" --generate 3 --frames 2000 --workers 64 --batch 256 --round 1 --rows 1 --memcap 1 --segments 0 </dev/null >"$work/text"
+if [ $? -eq 0 ] && python3 -c '
+import json, sys
+line = json.load(sys.stdin)
+stats = line["stats"]
+counted = sum(stats["decoder"].values()) + stats["flow"]["no_flow"] + stats["flow"]["packets"]
+sys.exit(not line["frames"] == stats["capture"]["frames"] == counted == 2000)' <"$work/text"; then
+  passed=$((passed + 1))
+else
+  failed=$((failed + 1))
+  echo "a generated capture under the least limits: $(cat "$work/text")"
+fi
 echo "$passed passed, $failed failed"
 [ $failed -eq 0 ]

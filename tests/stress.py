@@ -1,6 +1,6 @@
 #!/usr/bin/env python3
 """Runs the program over captures under many options. In each run the status must be the one that capture and options give, and the counts must
-add up; all runs that met no limit must print the same text, where seed, depth and netflow lines are the same.
+add up; all runs that met no limit must print the text of the model (tests/model), which knows no limits, whatever shares out their work.
 
     tests/stress.py [--program PROGRAM] [--runs N] [--seed N] CAPTURE..
 """
@@ -12,6 +12,8 @@ import pathlib
 import random
 import subprocess
 import sys
+
+import model
 
 # Options that share out the work or limit it, from the least value to the greatest that is tried.
 RANGES = {
@@ -158,6 +160,14 @@ def faults_of_text(lines, chosen, asked, first):
     yield from faults_of_limits(lines, chosen)
 
 
+def modelled(capture, words):
+    """What the model prints: status, text and note."""
+    try:
+        return Run(0, model.output(pathlib.Path(capture).read_bytes(), model.options(words)).encode(), "")
+    except model.Refused as refused:
+        return Run(refused.status, b"", f"suri_run: {refused.note}\n")
+
+
 class Text:
     """All runs over one capture with the same options of text."""
 
@@ -168,6 +178,8 @@ class Text:
         self.lines = lines_of(self.first)
 
     def faults_of_first(self):
+        if self.first != modelled(self.capture, self.words):
+            yield "another status, text or note than the model's"
         if self.lines is None:
             if self.first.status != 5 or self.first.text:
                 yield f"status {self.first.status} and note {self.first.note!r}"

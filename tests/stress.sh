@@ -1,6 +1,6 @@
 #!/usr/bin/env bash
 # Runs of the program under many options, at its limits and far from them: what each run counts must add up, and what met no limit must print the
-# same text whatever the options. Outside the gate: it takes minutes.
+# model's text whatever the options. Outside the gate: it takes minutes.
 #
 #     [MKCAP=PROGRAM] tests/stress.sh [RUNS [SEED]]
 #

@@ -8,7 +8,8 @@ can be compared on any capture (tests/compare.py).
 from model.capture import Refused, read
 from model.decode import Counted, decode
 from model.flows import runs_of
-from model.lines import flow_line, netflow_lines, stats_line
+from model.generator import generate
+from model.lines import flow_line, netflow_lines, stats_line, summary_line
 from model.words import Options, options
 
 
@@ -35,3 +36,10 @@ def text(data, options=Options()):
     capture = {"bytes": sum(len(frame) for frame, _ in seen), "cut_bytes": cut_bytes, "frames": len(seen)}
     lines = [flow_line(run, options) + (netflow_lines(run, options) if options.netflow else "") for run in runs]
     return "".join(lines) + stats_line(capture, counters, runs, clock)
+
+
+def output(data, options=Options()):
+    """What a run writes: the text of these bytes, or the summary of a generated capture's."""
+    if options.generate is None:
+        return text(data, options)
+    return summary_line(text(generate(options.generate, options.frames), options), options)

@@ -1,4 +1,5 @@
 """The lines of the text: compact JSON, keys in order of bytes."""
+import hashlib
 import json
 from datetime import datetime, timedelta, timezone
 
@@ -137,3 +138,11 @@ def stats_line(capture, counters, runs, clock):
         "flow": flow | pools | {reason: reasons.count(reason) for reason in ("shutdown", "tcp_reuse", "timeout")},
     }
     return line({"event_type": "stats", "timestamp": moment(clock), "stats": stats})
+
+
+def summary_line(text, options):
+    """What stands in place of the text of a generated capture."""
+    return line({
+        "event_type": "summary", "frames": options.frames, "seed": options.generate, "lines": len(text.splitlines()),
+        "sha1": hashlib.sha1(text.encode()).hexdigest(), "stats": json.loads(text.splitlines()[-1])["stats"],
+    })

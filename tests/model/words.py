@@ -8,15 +8,18 @@ NUMBERS = {
     "workers": (1, 64, 4), "batch": (1, 256, 32), "round": (1, 65_536, 4_096), "rows": (1, 4_096, 1_024),
     "memcap": (1, 1_048_576, 65_536), "prealloc": (0, 1_048_576, 1_000), "segments": (0, 1_048_576, 65_536),
     "depth": (0, 1_073_741_824, 1_048_576), "recovery": (1, 100, 30), "seed": (0, 65_535, 0),
+    "generate": (0, 2**64 - 1, None), "frames": (1, 1_000_000, None),
 }
 
 
 class Options(NamedTuple):
-    """Those that have an effect on the text of a run in which no pool is full."""
+    """Those that have an effect on what is written by a run in which no pool is full."""
 
     depth: int = 1_048_576
     seed: int = 0
     netflow: bool = False
+    generate: int | None = None
+    frames: int | None = None
 
 
 def number(name, word):
@@ -54,4 +57,6 @@ def options(words):
     found = {name: default for name, (_, _, default) in NUMBERS.items()} | {"netflow": False} | read_words(words)
     if found["rows"] > found["memcap"]:
         raise Refused(2, f"rows {found['rows']} exceed memcap {found['memcap']}")
+    if (found["generate"] is None) != (found["frames"] is None):
+        raise Refused(2, "--generate goes with --frames and without --audit")
     return Options(*(found[name] for name in Options._fields))
