@@ -1,22 +1,10 @@
 -- Sets of numbers, as lists in which none stands twice.
-use Rattle.std.proofs.Common.{◌≡◌, ℕ, zero, suc, ◌==◌, ◌<◌, ◌≤◌, ◌-◌, ◌^◌, Bool, true, false, not, cond, if◌then◌else◌, ◌+◌, ◌&&◌, ◌||◌, List, [], ◌∷◌, ◌++◌, length, filter, ⊎_elim, refl, sym, ◌∙◌, ap, subst, arith, eqb-true}
+use Rattle.std.proofs.Common.{◌≡◌, ℕ, zero, suc, ◌==◌, ◌<◌, ◌≤◌, ◌-◌, Bool, true, false, not, cond, if◌then◌else◌, ◌+◌, ◌&&◌, ◌||◌, List, [], ◌∷◌, length, filter, ⊎_elim, refl, sym, ◌∙◌, ap, subst, arith}
 use Rattle.std.proofs.lemmas.Bool.Decides.{nat_tests, eqb_tells}
-use Rattle.flow_uses.specs.Uses.{has, AreFrames, IsNumberSet}
+use Rattle.flow_uses.specs.Uses.{has, IsNumberSet}
 
 abbrev pub without : ℕ → List ℕ → List ℕ
 without f us = filter (λ u. not (u == f)) us
-
-pub has-append : (us : List ℕ) (f u : ℕ) → has (us ++ f ∷ []) u ≡ ((f == u) || has us u)
-has-append [] f u = or_nil (f == u)
-  where
-    or_nil : (p : Bool) → (p || false) ≡ (p || false)
-    or_nil p = refl
-has-append (x ∷ us) f u = ap (λ b. (x == u) || b) (has-append us f u) ∙ or_swap (x == u) (f == u) (has us u)
-  where
-    or_swap : (p q r : Bool) → (p || (q || r)) ≡ (q || (p || r))
-    or_swap true true r = refl
-    or_swap true false r = refl
-    or_swap false q r = refl
 
 pub has-without : (x a : ℕ) (ys : List ℕ) → has (without x ys) a ≡ (has ys a && not (a == x))
 has-without x a [] = refl
@@ -41,21 +29,6 @@ has-without x a (y ∷ ys) = step (y == x) (y == a) (a == x) refl refl refl (has
     step false true false i j k h = rw j refl
     step false false r i j k h = rw j h
 
-pub set-append : (us : List ℕ) (f : ℕ) → IsNumberSet us → has us f ≡ false → IsNumberSet (us ++ f ∷ [])
-set-append [] f s h = (refl, tt)
-set-append (x ∷ us) f s h = let k = parts (x == f) (has us f) h in (has-append us f x ∙ both (f == x) (has us x) (flip x f k.0) s.0, set-append us f s.1 k.1)
-  where
-    parts : (p q : Bool) → (p || q) ≡ false → (p ≡ false) × (q ≡ false)
-    parts true q h = cc
-    parts false q h = (refl, h)
-
-    both : (p q : Bool) → p ≡ false → q ≡ false → (p || q) ≡ false
-    both true q h k = h
-    both false q h k = k
-
-    flip : (x f : ℕ) → (x == f) ≡ false → (f == x) ≡ false
-    flip x f h = grind (arith, nat_tests)
-
 pub set-without : (x : ℕ) (ys : List ℕ) → IsNumberSet ys → IsNumberSet (without x ys)
 set-without x [] s = tt
 set-without x (y ∷ ys) s = step (y == x) (set-without x ys s.1)
@@ -64,7 +37,7 @@ set-without x (y ∷ ys) s = step (y == x) (set-without x ys s.1)
     step true k = k
     step false k = (has-without x y ys ∙ ap (λ (v : Bool). v && not (y == x)) s.0, k)
 
-length-without_absent : (x : ℕ) (ys : List ℕ) → has ys x ≡ false → without x ys ≡ ys
+pub length-without_absent : (x : ℕ) (ys : List ℕ) → has ys x ≡ false → without x ys ≡ ys
 length-without_absent x [] h = refl
 length-without_absent x (y ∷ ys) h = step (y == x) h (length-without_absent x ys)
   where
@@ -153,43 +126,6 @@ few_below (suc n) xs s low = step (has xs n) refl (λ e. few_below n (without n 
       where
         clash : (u : ℕ) → u ≡ n → has xs u ≡ true → ⊥
         clash u i h = let m : has xs n ≡ true = subst (λ (v : ℕ). has xs v ≡ true) i h in cc
-
--- frames with one more, and with one less
-pub frames-append : (us : List ℕ) (f : ℕ) → AreFrames us → has us f ≡ false → 1 ≤ f → f < 2 ^ 32 → AreFrames (us ++ f ∷ [])
-frames-append us f a h p l = record {
-  once = set-append us f a.once h;
-  positive = has-append us f 0 ∙ both (f == 0) (has us 0) (not_zero f p) a.positive;
-  small = λ u m. by u (f == u) refl (sym (has-append us f u) ∙ m);
-}
-  where
-    both : (p q : Bool) → p ≡ false → q ≡ false → (p || q) ≡ false
-    both true q h k = h
-    both false q h k = k
-
-    not_zero : (f : ℕ) → 1 ≤ f → (f == 0) ≡ false
-    not_zero f p = grind (arith, nat_tests)
-
-    by : (u : ℕ) (b : Bool) → (f == u) ≡ b → (b || has us u) ≡ true → u < 2 ^ 32
-    by u true e m = subst (λ (v : ℕ). v < 2 ^ 32) (eqb-true f u e) l
-    by u false e m = a.small u m
-
-pub frames-without : (us : List ℕ) (f : ℕ) → AreFrames us → AreFrames (without f us)
-frames-without us f a = record {
-  once = set-without f us a.once;
-  positive = has-without f 0 us ∙ ap (λ v. v && not (0 == f)) a.positive;
-  small = λ u m. a.small u (by (has us u) (u == f) (sym (has-without f u us) ∙ m));
-}
-  where
-    by : (p q : Bool) → (p && not q) ≡ true → p ≡ true
-    by true q h = refl
-    by false q h = h
-
-pub few_frames : (us : List ℕ) → AreFrames us → length us < 2 ^ 32
-few_frames us a = few_below (2 ^ 32) (0 ∷ us) (a.positive, a.once) (λ u h. by u (0 == u) refl h)
-  where
-    by : (u : ℕ) (b : Bool) → (0 == u) ≡ b → (b || has us u) ≡ true → u < 2 ^ 32
-    by u true e h = subst (λ (v : ℕ). v < 2 ^ 32) (eqb-true 0 u e) (omega arith)
-    by u false e h = a.small u h
 
 -- however many of the places are taken, those taken and those left are no fewer than in a list with as many places
 pub places_kept : (frames room taken left cap l m : ℕ) → l ≡ frames → (cap - l) ≡ room → l ≤ cap → m ≡ taken → (cap - m) ≡ left → frames + room ≤ taken + left

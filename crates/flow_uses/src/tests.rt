@@ -6,16 +6,17 @@ use std::test::Fail;
 fn frames_come_and_go(rt: HostRuntime) -> Result<(), Fail> {
     let mut uses = Uses::new(rt.alloc());
     assert!(rt; uses.count() == 0 && !uses.has(5));
-    uses.reserve()?;
-    uses.begin_use(5);
-    uses.reserve()?;
-    if !uses.has(9) {
-        uses.begin_use(9);
+    for no in [9, 5, 7] {
+        uses.reserve()?;
+        if !uses.has(no) {
+            uses.begin_use(no);
+        }
     }
-    assert!(rt; uses.count() == 2 && uses.has(5) && uses.has(9) && !uses.has(4));
+    assert!(rt; uses.count() == 3 && uses.has(5) && uses.has(7) && uses.has(9));
+    assert!(rt; !uses.has(4) && !uses.has(6));
     assert!(rt; uses.end_use(5));
     assert!(rt; !uses.end_use(5));
-    assert!(rt; uses.count() == 1 && !uses.has(5) && uses.has(9));
+    assert!(rt; uses.count() == 2 && !uses.has(5) && uses.has(7) && uses.has(9));
     Ok(())
 }
 

@@ -1,6 +1,6 @@
 //! A set of frames.
-ghost use Rattle.std.specs.Prelude.{◌≡◌, ◌<◌, ◌≤◌, ◌+◌, ◌==◌, ◌&&◌, ◌||◌, ◌++◌, ◌∷◌, [], ℕ, not, false, filter, length, vec_len, vec_capacity, IsOk, OnOk, if◌then◌else◌};
-ghost use Rattle.flow_uses.specs.Uses.{has, IsNumberSet};
+ghost use Rattle.std.specs.Prelude.{◌≡◌, ◌<◌, ◌≤◌, ◌+◌, ◌==◌, ◌&&◌, ◌||◌, [], ℕ, not, false, filter, length, vec_len, vec_capacity, IsOk, OnOk, IfOk, IfErr, if◌then◌else◌};
+ghost use Rattle.flow_uses.specs.Uses.{has, AreRising, IsAt, IsGap, IsNumberSet};
 
 use std::alloc::Global;
 use std::marker::Model;
@@ -10,6 +10,7 @@ use suri_base::NoMemory;
 /// for how many more frames there is room.
 #[derive(Drop)]
 pub struct Uses {
+    // As they rise, so that a search of many is short.
     frames: Vec<u32>,
 }
 
@@ -24,22 +25,44 @@ impl Model for Uses {
     ghost invariant = { λ u. AreFrames u.frames.items };
 }
 
-// One element more, for which there is room.
+// The place of a number among those that rise, or the one where it would stand.
+fn place(items: &[u32], item: u32) -> Result<usize, usize>
+    requires { AreRising items.now }
+    ensures found { IfOk result (IsAt items.now item) }
+    ensures absent { IfErr result (IsGap items.now item) }
+{
+    items.binary_search(&item)
+}
+
+// One number more, at its place, for which there is room.
 fn put(items: &mut Vec<u32>, item: u32)
-    requires { vec_len items.old < vec_capacity items.old }
-    ensures items { items.new.items ≡ items.old.items ++ item ∷ [] }
+    requires rising { AreRising items.old.items }
+    requires room { vec_len items.old < vec_capacity items.old }
+    requires new { has items.old.items item ≡ false }
+    ensures rising { AreRising items.new.items }
+    ensures numbers { (u : ℕ) → has items.new.items u ≡ ((item == u) || has items.old.items u) }
     ensures len { vec_len items.new ≡ vec_len items.old + 1 }
     ensures capacity { vec_capacity items.old ≤ vec_capacity items.new }
 {
-    let _ = items.push(item);
+    if let Err(at) = place(items, item) {
+        let _ = items.insert(at, item);
+    }
 }
 
-// Takes an element out, wherever it stands.
-fn take_away(items: &mut Vec<u32>, item: u32)
+// Takes a number out, wherever it stands. Says whether it was there.
+fn take_away(items: &mut Vec<u32>, item: u32) -> bool
+    requires { AreRising items.old.items }
+    ensures was { result ≡ has items.old.items item }
     ensures items { items.new.items ≡ filter (λ x. not (x == item)) items.old.items }
     ensures capacity { vec_capacity items.new ≡ vec_capacity items.old }
 {
-    items.retain(|x| *x != item);
+    match place(items, item) {
+        Ok(at) => {
+            let _ = items.remove(at);
+            true
+        }
+        Err(_) => false,
+    }
 }
 
 impl Uses {
@@ -92,16 +115,14 @@ impl Uses {
         ensures count { length self.old.frames ≡ (if result then length self.new.frames + 1 else length self.new.frames) }
         ensures room { length self.old.frames + self.old.room ≤ length self.new.frames + self.new.room }
     {
-        let was = self.has(no);
-        take_away(&mut self.frames, no);
-        was
+        take_away(&mut self.frames, no)
     }
 
     /// Whether that frame uses the flow.
     pub fn has(&self, no: u32) -> bool
         ensures { result ≡ has self.now.frames no }
     {
-        self.frames.iter().any(|frame| *frame == no)
+        place(&self.frames, no).is_ok()
     }
 
     /// How many frames use the flow.
