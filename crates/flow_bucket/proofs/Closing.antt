@@ -1,5 +1,5 @@
 -- First packets and closes, against their entries.
-use Rattle.std.proofs.Common.{◌≡◌, ℕ, ◌==◌, ◌-◌, Bool, true, false, not, cond, ◌&&◌, ◌||◌, List, [], ◌∷◌, ◌++◌, length, slice_get, slice_set, remove, Option, Some, None, ⊎_elim, refl, sym, ◌∙◌, ap, subst, arith, eq-eqb}
+use Rattle.std.proofs.Common.{◌≡◌, ℕ, ◌==◌, ◌-◌, ◌≤◌, Bool, true, false, not, cond, ◌&&◌, ◌||◌, List, [], ◌∷◌, length, slice_get, slice_set, insert, remove, Option, Some, None, ⊎_elim, refl, sym, ◌∙◌, ap, subst, arith, eq-eqb}
 use Rattle.std.specs.Prelude.{Box, ◌+◌}
 use Rattle.std.specs.declared.alloc.Global.{Global}
 use Rattle.suri_base.specs.App.{payload_of}
@@ -19,25 +19,27 @@ use Rattle.flow_object.specs.Streams.{first_offer, to_client, to_server}
 use Rattle.bucket_rules.specs.declared.fixed.Fixed.{Fixed}
 use Rattle.suri_base.specs.declared.entry.BucketNote.{BucketNote}
 use Rattle.suri_base.specs.declared.entry.BucketNote.TheVariants as note
-use Rattle.bucket_rules.specs.Packets.{bearing}
+use Rattle.bucket_rules.specs.Packets.{bearing, has_key}
 use Rattle.bucket_rules.specs.Row.{Row, Place, unbegun, linked, detached, off, blank, row, after, has, without, is_here, is_linked, is_none_of, is_begun, offer_of, waiting_of, with_packet}
 use Rattle.bucket_rules.specs.Own.{awaits, is_needing, owes}
 use Rattle.bucket_rules.specs.Rule.{MayClose}
-use Rattle.bucket_rules.specs.Sound.{IsOwing, IsOpened, IsUse}
+use Rattle.bucket_rules.specs.Sound.{IsOwing, IsOpened, IsUse, IsWait}
 use Rattle.bucket_rules.specs.Streams.{stops_after, waiting_after}
 use Rattle.bucket_rules.proofs.Words.{cond_other, cond_this, none_some, some_is}
 use Rattle.flow_uses.proofs.Sets.{has-without}
 use Rattle.flow_bucket.specs.declared.calls.BucketCall.TheVariants as call
 use Rattle.flow_bucket.specs.declared.calls.BucketReply.TheVariants as reply
-use Rattle.flow_bucket.specs.declared.flow.Cause.{Cause}
-use Rattle.flow_bucket.specs.Held.{Held, IsMade, Closed, Settled, StandsIf, gone_by, gone_place, ended_by, used_by, cause}
-use Rattle.flow_bucket.specs.Flows.{NonePasses, find_in}
+use Rattle.bucket_flow.specs.declared.flow.Cause.{Cause}
+use Rattle.suri_base.specs.Keys.{same_key}
+use Rattle.flow_table.specs.Slots.{IsNewRun}
+use Rattle.bucket_flow.specs.Held.{Held, linked_with, IsMade, Closed, Settled, StandsIf, gone_by, gone_place, ended_by, used_by, cause}
+use Rattle.bucket_flow.specs.Flows.{NonePasses, find_in}
 use Rattle.flow_bucket.specs.LetGo.{IsObject, IsEnded}
 use Rattle.flow_bucket.specs.Stands.{IsFlow, IsHeld, MaySettle, Stands, Did, Done, MayMake}
-use Rattle.flow_bucket.proofs.FlowMap.{place_of_run}
-use Rattle.flow_bucket.proofs.Knowing.{beside_of, first_settled, mine_settled}
+use Rattle.bucket_flow.proofs.FlowMap.{place_of_run}
+use Rattle.flow_bucket.proofs.Knowing.{beside_of, first_settled, key_same, mine_settled}
 use Rattle.bucket_rules.proofs.Soundness.{sound}
-use Rattle.flow_bucket.proofs.Doing.{flow_at, did_same, did_set, did_remove, did_push}
+use Rattle.flow_bucket.proofs.Doing.{flow_at, did_same, did_set, did_remove, did_insert, away_none}
 use Rattle.flow_bucket.proofs.Parting.{none_alike}
 
 pub may_owes : (past : List (Entry BucketNote)) (role f : ℕ) (node : Option (Box Linked Global)) → MaySettle past role f node
@@ -59,10 +61,10 @@ module _ (s : Fixed) (past : List (Entry BucketNote)) (flows : List Held) (st : 
   pub made_bears : (role f : ℕ) → awaits role f past ≡ true → bearing s.capture f ≡ None → ⊥
   made_bears role f may none = none_some none ((sound s past st.legal).waits role f may).own.bears
 
-  pub make_done : (role f : ℕ) (t : Facts) (said : Offer) (obj : Box _ Global) (h : Held) → MayMake s past role f obj.value
+  pub make_done : (role f : ℕ) (t : Facts) (said : Offer) (obj : Box _ Global) (h : Held) (place : ℕ) → place ≤ length flows → MayMake s past role f obj.value
       → bearing s.capture f ≡ Some t → t.no ≡ f → IsMade s.capture.bytes t obj.value.depth said h
-      → Done s past role (call.Make f obj) (reply.Made said) (note.Made f said) (flows ++ h ∷ [])
-  make_done role f t said obj h may b n m =
+      → Done s past role (call.Make f obj) (reply.Made said) (note.Made f said) (insert flows place h)
+  make_done role f t said obj h place within may b n m =
       let snd = sound s past st.legal in
       let w = snd.waits role f may.0 in
       let run : h.run ≡ f = m.run ∙ n in
@@ -73,7 +75,7 @@ module _ (s : Fixed) (past : List (Entry BucketNote)) (flows : List Held) (st : 
       record {
         rule = (may.0, λ u e. answer ∙ first_alike u (some_is b e) ∙ ap (λ (v : Row). offer_of s v u) (sym none));
         noted = refl;
-        did = did_push s past (note.Made f said) flows h st
+        did = did_insert s past (note.Made f said) flows place h st within
             (subst (λ (x : ℕ). is_here (row s x past) ≡ false) (sym run) (ap is_here none))
             (subst (λ (x : ℕ). IsFlow s (after s x (note.Made f said) (row s x past)) h) (sym run)
             (subst (λ (v : Row). IsFlow s v h) (sym (made_row f t said b))
@@ -96,6 +98,39 @@ module _ (s : Fixed) (past : List (Entry BucketNote)) (flows : List Held) (st : 
     where
       first_alike : (u : Facts) → t ≡ u → first_offer s.layout.depth t.pay_at (payload_of s.capture.bytes t) t ≡ offer_of s blank u
       first_alike u e = ap (λ (x : Facts). first_offer s.layout.depth x.pay_at (payload_of s.capture.bytes x) x) e
+
+  -- the run that it begins is a new one
+  module _ (role f : ℕ) (t : Facts) (may : awaits role f past ≡ true) (b : bearing s.capture f ≡ Some t) (n : t.no ≡ f) where
+    waits : IsWait s past role f
+    waits = (sound s past st.legal).waits role f may
+
+    packet_same : waits.own.packet ≡ t
+    packet_same = some_is waits.own.bears b
+
+    no_key : NonePasses (linked_with t.key) flows
+    no_key k g e = by (is_linked g.place) (same_key g.obj.sums.key t.key) refl refl
+      where
+        flow : IsFlow s (row s g.run past) g
+        flow = flow_at s past flows k g st e
+
+        by : (l m : Bool) → is_linked g.place ≡ l → same_key g.obj.sums.key t.key ≡ m → (is_linked g.place && same_key g.obj.sums.key t.key) ≡ false
+        by false m u v = ap (λ (x : Bool). x && same_key g.obj.sums.key t.key) u
+        by true false u v = ap (λ (x : Bool). x && same_key g.obj.sums.key t.key) u ∙ v
+        by true true u v =
+            let p = waits.none g.run (ap is_linked (sym flow.place) ∙ u) in
+            let q : has_key (row s g.run past).members waits.own.packet.key ≡ true = ap (λ (x : Facts). has_key (row s g.run past).members x.key) packet_same ∙ key_same s (row s g.run past) g.obj t.key flow.object ∙ v in cc
+
+    no_use : NonePasses (used_by t.no) flows
+    no_use k g e =
+        let flow : IsFlow s (row s g.run past) g = flow_at s past flows k g st e in
+        flow.uses t.no ∙ ap (λ (x : ℕ). has (row s g.run past).uses x) n ∙ waits.new.unused g.run
+
+    pub new_run : IsNewRun t flows
+    new_run = record {
+      key = no_key;
+      run = away_none s past flows t.no st (ap (λ (x : ℕ). is_here (row s x past)) n ∙ ap is_here ((sound s past st.legal).begun f waits.new.unmade));
+      unused = no_use;
+    }
 
   -- no flow is used by the frame
   module _ (f : ℕ) (none : NonePasses (used_by f) flows) where

@@ -1,5 +1,5 @@
 -- What a call makes of the flows, against its entry, whatever the entry is.
-use Rattle.std.proofs.Common.{◌≡◌, ℕ, suc, ◌==◌, Bool, true, false, not, cond, ◌&&◌, ◌||◌, List, [], ◌∷◌, ◌++◌, length, map, filter, slice_get, slice_set, remove, Option, Some, None, ⊎_elim, refl, sym, ◌∙◌, ap, subst, arith, eqb-true, All}
+use Rattle.std.proofs.Common.{◌≡◌, ℕ, suc, ◌==◌, ◌≤◌, Bool, true, false, not, cond, ◌&&◌, ◌||◌, List, [], ◌∷◌, length, map, filter, slice_get, slice_set, insert, remove, Option, Some, None, ⊎_elim, refl, sym, ◌∙◌, ap, subst, arith, eqb-true, All}
 use Rattle.std.specs.Option.{is_some}
 use Rattle.std.proofs.lemmas.Bool.Decides.{eqb_tells}
 use Rattle.std.proofs.lemmas.List.{length-map}
@@ -18,11 +18,11 @@ use Rattle.bucket_rules.specs.Rule.{Rule, count_of}
 use Rattle.bucket_rules.specs.Sound.{IsSound}
 use Rattle.bucket_rules.proofs.Soundness.{sound}
 use Rattle.bucket_rules.proofs.Words.{cond_other, cond_this}
-use Rattle.flow_bucket.specs.Held.{Held, leaves, ended_of}
-use Rattle.flow_bucket.specs.Flows.{find_in, IsDistinct, stays}
+use Rattle.bucket_flow.specs.Held.{Held, leaves, ended_of}
+use Rattle.bucket_flow.specs.Flows.{find_in, IsDistinct, stays}
 use Rattle.flow_bucket.specs.LetGo.{IsEnded, IsLetGo, runs}
 use Rattle.flow_bucket.specs.Stands.{IsFlow, IsHeld, Stands, Did}
-use Rattle.flow_bucket.proofs.FlowMap.{find_at, place_of_run, find_set, find_remove, find_push, distinct_set, distinct_remove, distinct_push, changed, find_changed, distinct_changed}
+use Rattle.bucket_flow.proofs.FlowMap.{find_at, place_of_run, find_set, find_remove, find_insert, distinct_set, distinct_remove, distinct_insert, changed, find_changed, distinct_changed}
 use Rattle.flow_bucket.proofs.Sorting.{has_same, set_same, rising_from, set_from}
 
 pub stands_after : (s : Fixed) (past : List (Entry BucketNote)) (role step : ℕ) (n : BucketNote) (flows next : List Held) (es : List EndedFlow)
@@ -63,6 +63,14 @@ did_same s past n flows st same = record {
 pub flow_at : (s : Fixed) (past : List (Entry BucketNote)) (flows : List Held) (i : ℕ) (g : Held) → Stands s past flows
     → slice_get flows i ≡ Some g → IsFlow s (row s g.run past) g
 flow_at s past flows i g st e = subst (λ (o : Option Held). IsHeld s (row s g.run past) o) (find_at flows i g st.distinct e) (st.held g.run)
+
+-- a run that isn't here has no flow
+pub away_none : (s : Fixed) (past : List (Entry BucketNote)) (flows : List Held) (a : ℕ) → Stands s past flows → is_here (row s a past) ≡ false → find_in flows a ≡ None
+away_none s past flows a st away = by (find_in flows a) (st.held a)
+  where
+    by : (o : Option Held) → IsHeld s (row s a past) o → o ≡ None
+    by None k = refl
+    by (Some f) k = let m = k.here in let l = away in cc
 
 -- one run's flow changes, and its row
 module _ (s : Fixed) (past : List (Entry BucketNote)) (n : BucketNote) (flows next : List Held) (r : ℕ) (x : Option Held) (st : Stands s past flows)
@@ -106,25 +114,21 @@ did_remove s past n flows i g e st at same away ended others = record {
 }
 
 -- it begins
-pub did_push : (s : Fixed) (past : List (Entry BucketNote)) (n : BucketNote) (flows : List Held) (h : Held) → Stands s past flows
+pub did_insert : (s : Fixed) (past : List (Entry BucketNote)) (n : BucketNote) (flows : List Held) (i : ℕ) (h : Held) → Stands s past flows → i ≤ length flows
     → is_here (row s h.run past) ≡ false
     → IsFlow s (after s h.run n (row s h.run past)) h → ((a : ℕ) → (h.run ≡ a → ⊥) → after s a n (row s a past) ≡ row s a past)
-    → Did s past n (flows ++ h ∷ []) []
-did_push s past n flows h st away this others = record {
-  held = edit_held s past n flows (flows ++ h ∷ []) h.run (Some h) st (find_push flows h none) this others;
-  distinct = distinct_push flows h st.distinct none;
+    → Did s past n (insert flows i h) []
+did_insert s past n flows i h st within away this others = record {
+  held = edit_held s past n flows (insert flows i h) h.run (Some h) st (find_insert flows i h none within) this others;
+  distinct = distinct_insert flows i h st.distinct none within;
   gone = none_gone s past n (λ a. ⊎_elim
       (λ m. subst (λ (v : ℕ). lets_go s past n v ≡ false) m.1 (here_now (is_here (row s h.run past)) (is_here (after s h.run n (row s h.run past))) this.here))
       (λ m. same_stays s past n a (others a m.1))
       (eqb_tells h.run a));
 }
   where
-    by : (o : Option Held) → IsHeld s (row s h.run past) o → o ≡ None
-    by None k = refl
-    by (Some f) k = let m = k.here in let l = away in cc
-
     none : find_in flows h.run ≡ None
-    none = by (find_in flows h.run) (st.held h.run)
+    none = away_none s past flows h.run st away
 
 -- all flows may change, and leave
 

@@ -1,9 +1,9 @@
 -- What evictions, sweeps and the end of the capture are, against their entries.
 use Rattle.std.proofs.Common.{◌≡◌, ℕ, ◌+◌, ◌-◌, ◌*◌, ◌<◌, ◌≤◌, ◌^◌, Bool, true, false, not, ◌&&◌, List, [], ◌++◌, length, map, filter, slice_get, remove, Some, refl, sym, ◌∙◌, ap, subst, arith}
-use Rattle.std.specs.Prelude.{Vec}
 use Rattle.std.proofs.lemmas.Option.{get_or_from_slice_get}
 use Rattle.std.proofs.lemmas.List.{length-map}
 use Rattle.std.specs.List.Sorted.{IsPermutation, IsNonDecreasingBy}
+use Rattle.std.proofs.lemmas.List.Sorted.{IsPermutation-trans}
 use Rattle.suri_base.specs.Capture.{IsCapture}
 use Rattle.suri_base.specs.Clock.{clock_of}
 use Rattle.suri_base.specs.declared.entry.Entry.{Entry}
@@ -17,13 +17,13 @@ use Rattle.bucket_rules.specs.Packets.{round_clock, last_clock}
 use Rattle.bucket_rules.specs.Row.{Row, blank, off, row, after, has, is_here, made}
 use Rattle.bucket_rules.specs.Rule.{MayEvict, MaySweep, MayDrain, Rule}
 use Rattle.bucket_rules.specs.Sound.{IsSound, IsNumberSet}
-use Rattle.flow_bucket.specs.Held.{Held, ended_by, ended_of, leaves}
-use Rattle.flow_bucket.specs.Flows.{AreUsed, IsVictim, stays, swept_held, drained_held}
+use Rattle.bucket_flow.specs.Held.{Held, ended_by, ended_of, leaves}
+use Rattle.bucket_flow.specs.Flows.{AreUsed, IsVictim, stays, swept_held, drained_held}
 use Rattle.flow_bucket.specs.LetGo.{IsLetGo, runs}
 use Rattle.flow_bucket.specs.Stands.{Stands, Did, Done}
 use Rattle.flow_bucket.specs.declared.calls.BucketCall.TheVariants as call
 use Rattle.flow_bucket.specs.declared.calls.BucketReply.TheVariants as reply
-use Rattle.flow_bucket.proofs.Captured.{bearing_within}
+use Rattle.bucket_flow.proofs.Captured.{bearing_within}
 use Rattle.flow_bucket.proofs.Doing.{did_same, count_gone, count_here, has_find, find_here, set_of_distinct}
 use Rattle.flow_bucket.proofs.Evicting.{none_unused, first_unused, did_evict}
 use Rattle.flow_bucket.proofs.Parting.{did_sweep, did_drain}
@@ -70,42 +70,37 @@ evict_some s past role f flows i e st may v same =
     subst (λ (x : EndedFlow). Done s past role (call.Evict f) (reply.Victim x) (note.Victim f x.run) (remove flows i)) (sym same)
     (record { rule = (may, first_unused s past flows st i v); noted = refl; did = did_evict s past flows st f i v })
 
-pub same_items : {X Z : Type 0} (u v : Vec X Z) → u ≡ v → u.items ≡ v.items
-same_items {X} {Z} u v e = ap (λ (w : Vec X Z). w.items) e
-
 -- what a sweep does, and its rule
-pub sweep_did : (s : Fixed) (past : List (Entry BucketNote)) (round clock : ℕ) (emergency : Bool) (seen count : ℕ) (flows taken empty kept : List Held) (nobody gone es : List EndedFlow)
-    → IsCapture s.capture → Stands s past flows → slice_get s.capture.clocks (round * s.layout.round + 1 - 1) ≡ Some clock → taken ≡ flows
-    → empty ≡ [] → nobody ≡ []
-    → kept ≡ empty ++ filter stays (map (swept_held s.capture (round * s.layout.round) clock emergency) taken)
-    → gone ≡ nobody ++ map ended_of (filter leaves (map (swept_held s.capture (round * s.layout.round) clock emergency) taken))
-    → IsPermutation gone es → IsNonDecreasingBy (λ (e : EndedFlow). e.run) es → Did s past (note.Swept round emergency seen count) kept es
-sweep_did s past round clock emergency seen count flows taken empty kept nobody gone es is st at t e n k g p sorted =
+pub sweep_did : (s : Fixed) (past : List (Entry BucketNote)) (round clock : ℕ) (emergency : Bool) (seen count : ℕ) (flows next : List Held) (nobody gone es : List EndedFlow)
+    → IsCapture s.capture → Stands s past flows → slice_get s.capture.clocks (round * s.layout.round + 1 - 1) ≡ Some clock → nobody ≡ []
+    → next ≡ filter stays (map (swept_held s.capture (round * s.layout.round) clock emergency) flows)
+    → IsPermutation (nobody ++ map ended_of (filter leaves (map (swept_held s.capture (round * s.layout.round) clock emergency) flows))) gone
+    → IsPermutation gone es → IsNonDecreasingBy (λ (e : EndedFlow). e.run) es → Did s past (note.Swept round emergency seen count) next es
+sweep_did s past round clock emergency seen count flows next nobody gone es is st at none k g p sorted =
     let same : round * s.layout.round + 1 - 1 ≡ round * s.layout.round = omega arith in
     let now : round_clock s round ≡ clock = get_or_from_slice_get s.capture.clocks (round * s.layout.round) clock 0 (subst (λ (m : ℕ). slice_get s.capture.clocks m ≡ Some clock) same at) in
-    let base = did_sweep s past flows round emergency seen count es is st in
-    let kept_is : kept ≡ filter stays (map (swept_held s.capture (round * s.layout.round) (round_clock s round) emergency) flows)
-    = k ∙ ap (λ (l : List Held). empty ++ filter stays (map (swept_held s.capture (round * s.layout.round) clock emergency) l)) t ∙ ap (λ (l : List Held). l ++ filter stays (map (swept_held s.capture (round * s.layout.round) clock emergency) flows)) e ∙ ap (λ (x : ℕ). filter stays (map (swept_held s.capture (round * s.layout.round) x emergency) flows)) (sym now) in
-    let gone_is : gone ≡ map ended_of (filter leaves (map (swept_held s.capture (round * s.layout.round) (round_clock s round) emergency) flows))
-    = g ∙ ap (λ (l : List Held). nobody ++ map ended_of (filter leaves (map (swept_held s.capture (round * s.layout.round) clock emergency) l))) t ∙ ap (λ (l : List EndedFlow). l ++ map ended_of (filter leaves (map (swept_held s.capture (round * s.layout.round) clock emergency) flows))) n ∙ ap (λ (x : ℕ). map ended_of (filter leaves (map (swept_held s.capture (round * s.layout.round) x emergency) flows))) (sym now) in
-    subst (λ (l : List Held). Did s past (note.Swept round emergency seen count) l es) (sym kept_is) (base (subst (λ (l : List EndedFlow). IsPermutation l es) gone_is p) sorted)
+    let next_is : next ≡ filter stays (map (swept_held s.capture (round * s.layout.round) (round_clock s round) emergency) flows)
+    = k ∙ ap (λ (x : ℕ). filter stays (map (swept_held s.capture (round * s.layout.round) x emergency) flows)) (sym now) in
+    let left_is : nobody ++ map ended_of (filter leaves (map (swept_held s.capture (round * s.layout.round) clock emergency) flows)) ≡ map ended_of (filter leaves (map (swept_held s.capture (round * s.layout.round) (round_clock s round) emergency) flows))
+    = ap (λ (l : List EndedFlow). l ++ map ended_of (filter leaves (map (swept_held s.capture (round * s.layout.round) clock emergency) flows))) none ∙ ap (λ (x : ℕ). map ended_of (filter leaves (map (swept_held s.capture (round * s.layout.round) x emergency) flows))) (sym now) in
+    subst (λ (l : List Held). Did s past (note.Swept round emergency seen count) l es) (sym next_is)
+    (did_sweep s past flows round emergency seen count es is st (IsPermutation-trans _ gone es (subst (λ (l : List EndedFlow). IsPermutation l gone) left_is g) p) sorted)
 
 pub sweep_rule : (s : Fixed) (past : List (Entry BucketNote)) (role round : ℕ) (emergency : Bool) (seen count : ℕ) (flows next : List Held) (es : List EndedFlow)
     → Stands s past flows → MaySweep s role round
     → Did s past (note.Swept round emergency seen count) next es → count ≡ length es → Rule s past role (note.Swept round emergency seen count)
 sweep_rule s past role round emergency seen count flows next es st may did same = (may, same ∙ count_gone s past (note.Swept round emergency seen count) es (sound s past st.legal) did.gone)
 
-pub drain_did : (s : Fixed) (past : List (Entry BucketNote)) (clock count : ℕ) (flows taken empty kept : List Held) (nobody gone es : List EndedFlow)
-    → Stands s past flows → clock ≡ clock_of s.capture.frames → taken ≡ flows → empty ≡ [] → nobody ≡ []
-    → kept ≡ empty ++ filter stays (map (drained_held clock) taken) → gone ≡ nobody ++ map ended_of (filter leaves (map (drained_held clock) taken))
-    → IsPermutation gone es → IsNonDecreasingBy (λ (e : EndedFlow). e.run) es → Did s past (note.Drained count) kept es
-drain_did s past clock count flows taken empty kept nobody gone es st now t e n k g p sorted =
-    let base = did_drain s past flows count es st in
-    let kept_is : kept ≡ filter stays (map (drained_held (last_clock s)) flows)
-    = k ∙ ap (λ (l : List Held). empty ++ filter stays (map (drained_held clock) l)) t ∙ ap (λ (l : List Held). l ++ filter stays (map (drained_held clock) flows)) e ∙ ap (λ (x : ℕ). filter stays (map (drained_held x) flows)) now in
-    let gone_is : gone ≡ map ended_of (filter leaves (map (drained_held (last_clock s)) flows))
-    = g ∙ ap (λ (l : List Held). nobody ++ map ended_of (filter leaves (map (drained_held clock) l))) t ∙ ap (λ (l : List EndedFlow). l ++ map ended_of (filter leaves (map (drained_held clock) flows))) n ∙ ap (λ (x : ℕ). map ended_of (filter leaves (map (drained_held x) flows))) now in
-    subst (λ (l : List Held). Did s past (note.Drained count) l es) (sym kept_is) (base (subst (λ (l : List EndedFlow). IsPermutation l es) gone_is p) sorted)
+pub drain_did : (s : Fixed) (past : List (Entry BucketNote)) (clock count : ℕ) (flows next : List Held) (nobody gone es : List EndedFlow)
+    → Stands s past flows → clock ≡ clock_of s.capture.frames → nobody ≡ []
+    → next ≡ filter stays (map (drained_held clock) flows) → IsPermutation (nobody ++ map ended_of (filter leaves (map (drained_held clock) flows))) gone
+    → IsPermutation gone es → IsNonDecreasingBy (λ (e : EndedFlow). e.run) es → Did s past (note.Drained count) next es
+drain_did s past clock count flows next nobody gone es st now none k g p sorted =
+    let next_is : next ≡ filter stays (map (drained_held (last_clock s)) flows) = k ∙ ap (λ (x : ℕ). filter stays (map (drained_held x) flows)) now in
+    let left_is : nobody ++ map ended_of (filter leaves (map (drained_held clock) flows)) ≡ map ended_of (filter leaves (map (drained_held (last_clock s)) flows))
+    = ap (λ (l : List EndedFlow). l ++ map ended_of (filter leaves (map (drained_held clock) flows))) none ∙ ap (λ (x : ℕ). map ended_of (filter leaves (map (drained_held x) flows))) now in
+    subst (λ (l : List Held). Did s past (note.Drained count) l es) (sym next_is)
+    (did_drain s past flows count es st (IsPermutation-trans _ gone es (subst (λ (l : List EndedFlow). IsPermutation l gone) left_is g) p) sorted)
 
 pub drain_rule : (s : Fixed) (past : List (Entry BucketNote)) (role count : ℕ) (flows next : List Held) (es : List EndedFlow)
     → Stands s past flows → MayDrain s past role

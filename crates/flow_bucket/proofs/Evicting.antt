@@ -9,11 +9,11 @@ use Rattle.suri_base.specs.declared.entry.BucketNote.TheVariants.{Victim}
 use Rattle.bucket_rules.specs.Row.{Row, Place, detached, off, row, after, is_here, is_unused, is_linked, is_none_of}
 use Rattle.bucket_rules.specs.Rule.{IsFirstUnused, newest_clock}
 use Rattle.bucket_rules.proofs.Rowing.{off-not, off-now}
-use Rattle.flow_bucket.specs.Held.{Held, ended_by, is_unused_held}
-use Rattle.flow_bucket.specs.Flows.{find_in, IsVictim, AreUsed, Before}
+use Rattle.bucket_flow.specs.Held.{Held, ended_by, is_unused_held}
+use Rattle.bucket_flow.specs.Flows.{find_in, IsVictim, AreUsed, Before}
 use Rattle.flow_bucket.specs.LetGo.{IsEnded}
 use Rattle.flow_bucket.specs.Stands.{IsFlow, IsHeld, Stands, Did}
-use Rattle.flow_bucket.proofs.FlowMap.{place_of_run}
+use Rattle.bucket_flow.proofs.FlowMap.{place_of_run}
 use Rattle.flow_bucket.proofs.Doing.{flow_at, did_remove}
 use Rattle.flow_bucket.proofs.Knowing.{clock_last, differs, moved, unused_settled}
 use Rattle.flow_bucket.proofs.Parting.{none_alike}

@@ -39,7 +39,7 @@ use Rattle.bucket_rules.specs.Rule.{IsLegal}
 use Rattle.bucket_rules.specs.Sound.{IsAsking, IsOwing, IsUse}
 use Rattle.bucket_rules.specs.Streams.{answer_to, offer_after}
 use Rattle.flow_bucket.specs.LetGo.{IsObject}
-use Rattle.flow_bucket.proofs.Small.{beside_if}
+use Rattle.bucket_flow.proofs.Small.{beside_if}
 use Rattle.bucket_rules.proofs.Soundness.{sound}
 use Rattle.bucket_rules.proofs.Words.{none_some, some_is}
 

@@ -1,12 +1,11 @@
 -- What a look is, against its entry.
-use Rattle.std.proofs.Common.{◌≡◌, ℕ, ◌<◌, Bool, true, false, List, slice_get, slice_set, remove, Option, Some, None, IfSome, IfNone, refl, sym, ◌∙◌, ap, subst, arith}
+use Rattle.std.proofs.Common.{◌≡◌, ℕ, ◌<◌, Bool, true, false, List, slice_get, slice_set, remove, Some, None, refl, sym, ◌∙◌, ap, subst, arith}
 use Rattle.suri_base.specs.Capture.{IsCapture}
 use Rattle.suri_base.specs.declared.entry.Entry.{Entry}
 use Rattle.suri_base.specs.declared.facts.Facts.{Facts}
 use Rattle.suri_base.specs.declared.key.Key.{Key}
 use Rattle.suri_base.specs.declared.stream.Offer.{Offer}
 use Rattle.flow_object.specs.Standing.{StandsFor}
-use Rattle.flow_object.specs.Ending.{EndedFlow}
 use Rattle.flow_sum.specs.Run.{first_of}
 use Rattle.flow_sum.specs.declared.sums.Sums.{Sums}
 use Rattle.bucket_rules.specs.declared.fixed.Fixed.{Fixed}
@@ -22,19 +21,16 @@ use Rattle.flow_bucket.specs.declared.calls.BucketCall.{BucketCall}
 use Rattle.flow_bucket.specs.declared.calls.BucketCall.TheVariants as call
 use Rattle.flow_bucket.specs.declared.calls.BucketReply.{BucketReply}
 use Rattle.flow_bucket.specs.declared.calls.BucketReply.TheVariants as reply
-use Rattle.flow_bucket.specs.declared.flow.Cause.{Cause}
-use Rattle.flow_bucket.specs.Held.{Held, Joined, cut_at, ended_by, linked_with, off_by}
-use Rattle.flow_bucket.specs.Flows.{NonePasses}
-use Rattle.flow_bucket.specs.Stands.{Stands, Done, run_of}
-use Rattle.flow_bucket.proofs.Captured.{bearing_number}
+use Rattle.bucket_flow.specs.declared.flow.Cause.{Cause}
+use Rattle.bucket_flow.specs.Held.{Held, Joined, cut_at, ended_by, linked_with, off_by, used_by}
+use Rattle.flow_bucket.proofs.Doing.{flow_at}
+use Rattle.bucket_flow.specs.Flows.{NonePasses}
+use Rattle.flow_bucket.specs.Stands.{Stands, Done}
+use Rattle.bucket_flow.proofs.Captured.{bearing_number}
 use Rattle.flow_bucket.proofs.Knowing.{beside_of, last_same, mine_settled, offer_same}
 use Rattle.flow_bucket.proofs.Looking.{Target, target, rule_missing, none_joins, did_none, found_takes, cut_joins, did_off, did_left, did_found, stood}
 use Rattle.bucket_rules.proofs.Soundness.{sound}
 use Rattle.bucket_rules.proofs.Words.{some_is}
-
--- two reads of one place
-pub one_flow : (flows : List Held) (i : ℕ) (g h : Held) → slice_get flows i ≡ Some g → slice_get flows i ≡ Some h → g ≡ h
-one_flow flows i g h e k = some_is e k
 
 pub done_at : (s : Fixed) (past : List (Entry BucketNote)) (role : ℕ) (a : BucketCall) (r q : BucketReply) (n m : BucketNote) (next : List Held)
     → r ≡ q → n ≡ m → Done s past role a q m next → Done s past role a r n next
@@ -72,9 +68,10 @@ module _ (s : Fixed) (past : List (Entry BucketNote)) (flows : List Held) (f : �
   pub known : (g : Held) → (k : Target s past flows f t st b g) → StandsFor g.obj s.capture.bytes k.flow.object.run (row s g.run past).judged
   known g k = stood s past flows f t st b false g k (settled g k)
 
-  -- and doesn't use the run yet
-  pub unused : (g : Held) → Target s past flows f t st b g → t.no ≡ f → has g.uses t.no ≡ false
-  unused g k n = k.flow.uses t.no ∙ ap (λ (x : ℕ). has (row s g.run past).uses x) n ∙ ((sound s past st.legal).fresh role f may.own may.fresh).unused g.run
+  -- and uses no run yet
+  pub unused : t.no ≡ f → NonePasses (used_by t.no) flows
+  unused n k g e =
+      (flow_at s past flows k g st e).uses t.no ∙ ap (λ (x : ℕ). has (row s g.run past).uses x) n ∙ ((sound s past st.legal).fresh role f may.own may.fresh).unused g.run
 
   module _ (emergency : Bool) (seen i : ℕ) (g : Held) (e : slice_get flows i ≡ Some g) (passes : linked_with t.key g ≡ true) where
     own : Target s past flows f t st b g
@@ -95,19 +92,17 @@ module _ (s : Fixed) (past : List (Entry BucketNote)) (flows : List Held) (f : �
           did = did_found s past flows f t st b emergency g own seen i said h e n (settled g own) j;
         })
 
-    pub look_cut : (d : Cause) (ended : Option EndedFlow) (next : List Held) → cut_at g.obj t emergency ≡ Some d
-        → IfSome ended (λ x. (y : Held) → slice_get flows i ≡ Some y → (is_none_of y.uses ≡ true) × (x ≡ ended_by (off d.reason d.emergency) y) × (next ≡ remove flows i))
-        → IfNone ended ((y : Held) → slice_get flows i ≡ Some y → (is_none_of y.uses ≡ false) × (next ≡ slice_set flows i (off_by d y)))
-        → Done s past role (call.Look f emergency seen) (reply.Missing ended) (note.Missing f emergency seen (run_of ended)) next
-    look_cut d None next cut some none =
-        let k = none g e in
-        let did = did_off s past flows f t st b emergency g own seen 0 i d e cut k.0 in
-        subst (λ (l : List Held). Done s past role (call.Look f emergency seen) (reply.Missing None) (note.Missing f emergency seen 0) l) (sym k.1)
-        (record { rule = rule_missing s past flows f t st b role emergency seen (slice_set flows i (off_by d g)) None may (cut_joins s past flows f t st b emergency g own d cut) did; noted = refl; did = did })
-    look_cut d (Some x) next cut some none =
-        let k = some g e in
+    -- the run is cut, and stays while it is used
+    pub look_off : (d : Cause) → cut_at g.obj t emergency ≡ Some d → is_none_of g.uses ≡ false
+        → Done s past role (call.Look f emergency seen) (reply.Missing None) (note.Missing f emergency seen 0) (slice_set flows i (off_by d g))
+    look_off d cut used =
+        let did = did_off s past flows f t st b emergency g own seen 0 i d e cut used in
+        record { rule = rule_missing s past flows f t st b role emergency seen (slice_set flows i (off_by d g)) None may (cut_joins s past flows f t st b emergency g own d cut) did; noted = refl; did = did }
+
+    -- or leaves
+    pub look_left : (d : Cause) → cut_at g.obj t emergency ≡ Some d → is_none_of g.uses ≡ true
+        → Done s past role (call.Look f emergency seen) (reply.Missing (Some (ended_by (off d.reason d.emergency) g))) (note.Missing f emergency seen g.run) (remove flows i)
+    look_left d cut free =
         let y = ended_by (off d.reason d.emergency) g in
-        let did = did_left s past flows f t st b emergency g own seen y.run i d e cut k.0 in
-        subst (λ (z : EndedFlow). Done s past role (call.Look f emergency seen) (reply.Missing (Some z)) (note.Missing f emergency seen z.run) next) (sym k.1)
-        (subst (λ (l : List Held). Done s past role (call.Look f emergency seen) (reply.Missing (Some y)) (note.Missing f emergency seen y.run) l) (sym k.2)
-        (record { rule = rule_missing s past flows f t st b role emergency seen (remove flows i) (Some y) may (cut_joins s past flows f t st b emergency g own d cut) did; noted = refl; did = did }))
+        let did = did_left s past flows f t st b emergency g own seen y.run i d e cut free in
+        record { rule = rule_missing s past flows f t st b role emergency seen (remove flows i) (Some y) may (cut_joins s past flows f t st b emergency g own d cut) did; noted = refl; did = did }

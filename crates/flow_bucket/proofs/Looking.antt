@@ -21,12 +21,12 @@ use Rattle.bucket_rules.specs.Row.{Row, detached, off, look_off, bears_key, had_
 use Rattle.bucket_rules.specs.Rule.{MayLook, Rule}
 use Rattle.bucket_rules.proofs.Words.{cond_other, cond_this}
 use Rattle.bucket_rules.proofs.Rowing.{off-not, off-now, off-unlinked}
-use Rattle.flow_bucket.specs.declared.flow.Cause.{Cause}
-use Rattle.flow_bucket.specs.Held.{Held, Joined, StandsIf, cut_at, ended_by, linked_with, off_by}
-use Rattle.flow_bucket.specs.Flows.{NonePasses, find_in}
+use Rattle.bucket_flow.specs.declared.flow.Cause.{Cause}
+use Rattle.bucket_flow.specs.Held.{Held, Joined, StandsIf, cut_at, ended_by, linked_with, off_by}
+use Rattle.bucket_flow.specs.Flows.{NonePasses, find_in}
 use Rattle.flow_bucket.specs.LetGo.{IsEnded, runs}
 use Rattle.flow_bucket.specs.Stands.{IsFlow, IsHeld, Stands, Did, run_of}
-use Rattle.flow_bucket.proofs.FlowMap.{place_of_run}
+use Rattle.bucket_flow.proofs.FlowMap.{place_of_run}
 use Rattle.flow_bucket.proofs.Doing.{flow_at, did_same, did_set, did_remove}
 use Rattle.flow_bucket.proofs.Knowing.{expired_same, key_same, moved, reused_same, unused_settled}
 use Rattle.flow_bucket.proofs.Parting.{none_alike}

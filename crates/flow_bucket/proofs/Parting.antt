@@ -16,11 +16,11 @@ use Rattle.bucket_rules.specs.Packets.{bearing, is_due, is_expired, is_quiet, of
 use Rattle.bucket_rules.specs.Row.{Row, Off, Place, unbegun, linked, detached, off, off_if, end_off, row, after, has, is_here, is_linked, is_none_of}
 use Rattle.bucket_rules.specs.Rule.{MayDrain}
 use Rattle.bucket_rules.specs.Sound.{IsSound, IsNewest, IfRun}
-use Rattle.flow_bucket.specs.Held.{Held, leaves, ended_of, is_detached}
-use Rattle.flow_bucket.specs.Flows.{detached_for, stays, is_due_held, swept_held, drained_held, end_off_held}
+use Rattle.bucket_flow.specs.Held.{Held, leaves, ended_of, is_detached}
+use Rattle.bucket_flow.specs.Flows.{detached_for, stays, is_due_held, swept_held, drained_held, end_off_held}
 use Rattle.flow_bucket.specs.LetGo.{IsObject}
 use Rattle.flow_bucket.specs.Stands.{IsFlow, IsHeld, Stands, Did}
-use Rattle.flow_bucket.proofs.Captured.{bearing_number}
+use Rattle.bucket_flow.proofs.Captured.{bearing_number}
 use Rattle.flow_bucket.proofs.Doing.{Parted, did_all}
 use Rattle.flow_bucket.proofs.Knowing.{moved, expired_same, last_same, unused_settled}
 use Rattle.bucket_rules.proofs.Soundness.{sound}
@@ -39,7 +39,7 @@ none_alike (u ∷ us) [] h = absurd (first_there u (has us u) (h u))
 none_alike (u ∷ us) (v ∷ vs) h = refl
 
 -- a flow that the row keeps in the bucket stays
-kept_stays : (w : Row) (f : Held) → f.place ≡ w.place → is_none_of f.uses ≡ is_none_of w.uses → is_here w ≡ true → stays f ≡ true
+pub kept_stays : (w : Row) (f : Held) → f.place ≡ w.place → is_none_of f.uses ≡ is_none_of w.uses → is_here w ≡ true → stays f ≡ true
 kept_stays w f p u h = by f.place (is_none_of f.uses) refl refl
   where
     by : (q : Place) (b : Bool) → f.place ≡ q → is_none_of f.uses ≡ b → not (is_detached q && b) ≡ true

@@ -1,5 +1,5 @@
 -- More room changes nothing else; and what a step leaves.
-use Rattle.std.proofs.Common.{◌≡◌, ℕ, zero, suc, ◌<◌, ◌≤◌, true, List, [], ◌∷◌, slice_get, slice_set, vec_len, vec_capacity, Option, Some, inl, inr, ◌⊎◌, ⊎_elim, refl, sym, ◌∙◌, ap, subst, arith}
+use Rattle.std.proofs.Common.{◌≡◌, ℕ, zero, suc, ◌<◌, ◌≤◌, Bool, true, false, List, [], ◌∷◌, length, slice_get, slice_set, vec_capacity, Option, Some, inl, inr, ◌⊎◌, ⊎_elim, refl, sym, ◌∙◌, ap, subst, arith}
 use Rattle.std.proofs.lemmas.Bool.Decides.{eqb_tells}
 use Rattle.suri_base.specs.declared.entry.Entry.{Entry}
 use Rattle.suri_base.specs.declared.facts.Facts.{Facts}
@@ -11,16 +11,19 @@ use Rattle.bucket_rules.specs.Row.{Row, row, has, is_begun}
 use Rattle.flow_bucket.specs.declared.calls.BucketCall.{BucketCall}
 use Rattle.flow_bucket.specs.declared.calls.BucketCall.TheVariants as call
 use Rattle.flow_bucket.specs.declared.calls.BucketReply.{BucketReply}
-use Rattle.flow_bucket.specs.Held.{Held, linked_with}
+use Rattle.bucket_flow.specs.Held.{Held, linked_with}
 use Rattle.flow_bucket.specs.Stands.{IsFlow, IsHeld, Stands, Done, ended_in}
 use Rattle.flow_bucket.specs.Bucket.{HasRoom, HasUse, fixed_of}
-use Rattle.flow_bucket.specs.Flows.{find_in}
+use Rattle.bucket_flow.specs.Flows.{NonePasses, find_in}
 use Rattle.flow_bucket.specs.LetGo.{IsObject}
 use Rattle.flow_bucket.specs.declared.bucket.FlowBucket.{FlowBucket}
 use Rattle.flow_object.specs.Object.{Object}
-use Rattle.flow_bucket.proofs.FlowMap.{find_at, find_set, distinct_set}
+use Rattle.bucket_flow.proofs.FlowMap.{find_at, find_set, distinct_set}
 use Rattle.bucket_rules.proofs.Words.{some_is}
-use Rattle.flow_bucket.proofs.Places.{get_set}
+use Rattle.std.proofs.lemmas.Option.{same_Some}
+use Rattle.flow_table.specs.Slots.{HasJoinRoom, HasRoomier, IsChanged, SlotPasses, Table, filled, rank}
+use Rattle.flow_table.proofs.Places.{get_set, set_length}
+use Rattle.flow_table.proofs.Slots.{changed_there, get_rank, one_in, set_is}
 use Rattle.flow_bucket.proofs.Looking.{only, target}
 use Rattle.flow_bucket.proofs.Doing.{flow_at, stands_after}
 
@@ -68,49 +71,86 @@ pub stands_back : (s : Fixed) (past : List (Entry BucketNote)) (flows : List Hel
 stands_back s past flows i g h e at st =
     subst (λ (l : List Held). Stands s past l) (set_back flows i g h at) (stands_alike s past (slice_set flows i h) i h g (sym e) (get_set flows i g h at) st)
 
+module _ (s : Fixed) (past : List (Entry BucketNote)) (slots next : List (Option Held)) (i : ℕ) (k : IsChanged HasRoomier slots i next) where
+  pub roomier_stands : Stands s past (filled slots) → Stands s past (filled next)
+  roomier_stands st = subst (λ (l : List Held). Stands s past l) (sym (set_is slots i next k)) (stands_alike s past (filled slots) (rank slots i) k.flow k.now k.did.same (get_rank slots i k.flow k.there) st)
+
+  pub roomier_back : Stands s past (filled next) → Stands s past (filled slots)
+  roomier_back st = stands_back s past (filled slots) (rank slots i) k.flow k.now k.did.same (get_rank slots i k.flow k.there) (subst (λ (l : List Held). Stands s past l) (set_is slots i next k) st)
+
+pub roomier_count : (slots next : List (Option Held)) (i : ℕ) → IsChanged HasRoomier slots i next → length (filled next) ≡ length (filled slots)
+roomier_count slots next i k = ap (λ (l : List Held). length l) (set_is slots i next k) ∙ set_length (filled slots) (rank slots i) k.now
+
 -- what stands at a place of a list of which one place was written
-set_cases : (xs : List Held) (i j : ℕ) (h x : Held) → slice_get (slice_set xs i h) j ≡ Some x → ((i ≡ j) × (h ≡ x)) ⊎ (slice_get xs j ≡ Some x)
+set_cases : {X : Type 0} (xs : List X) (i j : ℕ) (h x : X) → slice_get (slice_set xs i h) j ≡ Some x → ((i ≡ j) × (h ≡ x)) ⊎ (slice_get xs j ≡ Some x)
 set_cases [] i j h x e = inr e
 set_cases (y ∷ ys) zero zero h x e = inl (refl, cc)
 set_cases (y ∷ ys) zero (suc j) h x e = inr e
 set_cases (y ∷ ys) (suc i) zero h x e = inr e
 set_cases (y ∷ ys) (suc i) (suc j) h x e = ⊎_elim (λ m. inl (ap suc m.0, m.1)) (λ m. inr m) (set_cases ys i j h x e)
 
--- a flow that may be joined has room now: there is but one
-pub use_found : (s : Fixed) (f : ℕ) (flows : List Held) (t : Facts) (i : ℕ) (g h : Held) → bearing s.capture f ≡ Some t
-    → slice_get flows i ≡ Some g → linked_with t.key g ≡ true → Alike h g → 0 < h.room
-    → HasUse s f (slice_set flows i h)
-use_found s f flows t i g h b at passes e room past st u j x bu xj pass =
-    let next = slice_set flows i h in
-    let there : slice_get next i ≡ Some h = get_set flows i g h at in
+-- a flow that may be joined has room: there is but one
+pub use_found : (s : Fixed) (f : ℕ) (t : Facts) (v : Table) (i : ℕ) (h : Held) → bearing s.capture f ≡ Some t
+    → slice_get v.slots i ≡ Some (Some h) → linked_with t.key h ≡ true → 0 < h.room → 0 < v.joins → HasUse s f v
+use_found s f t v i h b there passes room joins past st u j x bu xj pass =
+    let flows = filled v.slots in
     let same : u ≡ t = some_is bu b in
-    let mine = target s past next f t st b i h there (ap (λ (y : Held). linked_with t.key y) e ∙ passes) in
-    let other = target s past next f t st b j x xj (ap (λ (v : Facts). linked_with v.key x) (sym same) ∙ pass) in
-    let runs : x.run ≡ h.run = only s past next f t st b h mine x.run other.linked other.key in
-    let flow : h ≡ x = some_is (find_at next i h st.distinct there) (ap (λ (r : ℕ). find_in next r) (sym runs) ∙ find_at next j x st.distinct xj) in
-    subst (λ (y : Held). 0 < y.room) flow room
+    let at = get_rank v.slots i h there in
+    let other = get_rank v.slots j x xj in
+    let mine = target s past flows f t st b (rank v.slots i) h at passes in
+    let its = target s past flows f t st b (rank v.slots j) x other (ap (λ (w : Facts). linked_with w.key x) (sym same) ∙ pass) in
+    let runs : x.run ≡ h.run = only s past flows f t st b h mine x.run its.linked its.key in
+    let flow : h ≡ x = some_is (find_at flows (rank v.slots i) h st.distinct at) (ap (λ (r : ℕ). find_in flows r) (sym runs) ∙ find_at flows (rank v.slots j) x st.distinct other) in
+    (subst (λ (y : Held). 0 < y.room) flow room, joins)
+
+-- where none may be joined there is nothing to ask for
+pub use_none : (s : Fixed) (f : ℕ) (t : Facts) (v : Table) → bearing s.capture f ≡ Some t → NonePasses (linked_with t.key) (filled v.slots) → HasUse s f v
+use_none s f t v b none past st u j x bu xj pass =
+    absurd (clash (linked_with t.key x) (none (rank v.slots j) x (get_rank v.slots j x xj)) (ap (λ (w : Facts). linked_with w.key x) (some_is b bu) ∙ pass))
+  where
+    clash : (p : Bool) → p ≡ false → p ≡ true → ⊥
+    clash p e m = cc
+
+pub use_reserved : (s : Fixed) (f : ℕ) (t : Facts) (slots : List (Option Held)) (v : Table) (i : ℕ) → bearing s.capture f ≡ Some t → SlotPasses (linked_with t.key) slots i
+    → IsChanged HasRoomier slots i v.slots → HasJoinRoom v i → HasUse s f v
+use_reserved s f t slots v i b u k room =
+    let now : room.1.flow ≡ k.now = one_in v.slots i room.1.flow k.now room.1.there (changed_there slots i v.slots k) in
+    let was : k.flow ≡ u.flow = one_in slots i k.flow u.flow k.there u.there in
+    use_found s f t v i room.1.flow b room.1.there
+    (ap (λ (y : Held). linked_with t.key y) now ∙ ap (λ (y : Held). linked_with t.key y) k.did.same ∙ ap (λ (y : Held). linked_with t.key y) was ∙ u.passes)
+    room.1.holds room.0
 
 -- more room for one flow takes none from the others
-pub use_kept : (s : Fixed) (f : ℕ) (flows : List Held) (i : ℕ) (g h : Held) → slice_get flows i ≡ Some g → Alike h g → g.room ≤ h.room
-    → HasUse s f flows → HasUse s f (slice_set flows i h)
-use_kept s f flows i g h at e more had past st u j x bu xj pass =
-    let was = stands_back s past flows i g h e at st in
+pub use_kept : (s : Fixed) (f : ℕ) (v w : Table) (i : ℕ) → IsChanged HasRoomier v.slots i w.slots → v.joins ≤ w.joins → HasUse s f v → HasUse s f w
+use_kept s f v w i k more had past st u j x bu xj pass =
+    let was = roomier_back s past v.slots w.slots i k st in
+    let e = k.did.same in
     ⊎_elim
-    (λ m. let room : 0 < g.room = had past was u i g bu at (ap (λ (y : Held). linked_with u.key y) (sym e) ∙ ap (λ (y : Held). linked_with u.key y) m.1 ∙ pass) in
-    subst (λ (y : Held). 0 < y.room) m.1 (omega (arith, room, more)))
-    (λ m. had past was u j x bu m pass)
-    (set_cases flows i j h x xj)
+    (λ m. let h : k.now ≡ x = same_Some k.now x m.1 in
+    let both = had past was u i k.flow bu k.there (ap (λ (y : Held). linked_with u.key y) (sym e) ∙ ap (λ (y : Held). linked_with u.key y) h ∙ pass) in
+    let room = both.0 in
+    let joins = both.1 in
+    let kept = k.did.kept in
+    (subst (λ (y : Held). 0 < y.room) h (omega (arith, room, kept)), omega (arith, joins, more)))
+    (λ m. let both = had past was u j x bu m pass in let joins = both.1 in (both.0, omega (arith, joins, more)))
+    (set_cases v.slots i j (Some k.now) (Some x) (ap (λ (l : List (Option Held)). slice_get l j) (sym k.set) ∙ xj))
 
--- where only flows have other room, the room of other calls is kept
-pub room_kept : (b c : FlowBucket) → ((f : ℕ) → HasUse (fixed_of b) f b.flows.items → HasUse (fixed_of c) f c.flows.items)
-    → vec_len c.flows ≡ vec_len b.flows → vec_capacity c.flows ≡ vec_capacity b.flows
-    → c.uses.room ≡ b.uses.room → vec_capacity c.kept ≡ vec_capacity b.kept → vec_capacity c.gone ≡ vec_capacity b.gone
+-- nor does more room of the table
+pub use_more : (s : Fixed) (f : ℕ) (v w : Table) → w.slots ≡ v.slots → v.joins ≤ w.joins → HasUse s f v → HasUse s f w
+use_more s f v w same more had past st u j x bu xj pass =
+    let both = had past (subst (λ (l : List (Option Held)). Stands s past (filled l)) same st) u j x bu (ap (λ (l : List (Option Held)). slice_get l j) (sym same) ∙ xj) pass in
+    let joins = both.1 in
+    (both.0, omega (arith, joins, more))
+
+-- where only room is more, the room of other calls is kept
+pub room_kept : (b c : FlowBucket) → ((f : ℕ) → HasUse (fixed_of b) f b.flows → HasUse (fixed_of c) f c.flows)
+    → length (filled c.flows.slots) ≡ length (filled b.flows.slots) → b.flows.begins ≤ c.flows.begins → b.uses.room ≤ c.uses.room → vec_capacity b.gone ≤ vec_capacity c.gone
     → (other : BucketCall) → HasRoom b other → HasRoom c other
-room_kept b c looks len flows uses kept gone (call.Look f emergency seen) room = looks f room
-room_kept b c looks len flows uses kept gone (call.Make f obj) room = let x = room.0 in let y = room.1 in (omega (arith, x, len, flows), omega (arith, y, uses))
-room_kept b c looks len flows uses kept gone (call.Refuse f) room = room
-room_kept b c looks len flows uses kept gone (call.Segment f node) room = room
-room_kept b c looks len flows uses kept gone (call.Close f app) room = room
-room_kept b c looks len flows uses kept gone (call.Evict f) room = room
-room_kept b c looks len flows uses kept gone (call.Sweep round emergency seen) room = let x = room.0 in let y = room.1 in (omega (arith, x, len, kept), omega (arith, y, len, gone))
-room_kept b c looks len flows uses kept gone call.Drain room = let x = room.0 in let y = room.1 in (omega (arith, x, len, kept), omega (arith, y, len, gone))
+room_kept b c looks len begins uses gone (call.Look f emergency seen) room = looks f room
+room_kept b c looks len begins uses gone (call.Make f obj) room = let x = room.0 in let y = room.1 in (omega (arith, x, begins), omega (arith, y, uses))
+room_kept b c looks len begins uses gone (call.Refuse f) room = room
+room_kept b c looks len begins uses gone (call.Segment f _) room = room
+room_kept b c looks len begins uses gone (call.Close f app) room = room
+room_kept b c looks len begins uses gone (call.Evict f) room = room
+room_kept b c looks len begins uses gone (call.Sweep round emergency seen) room = omega (arith, room, len, gone)
+room_kept b c looks len begins uses gone call.Drain room = omega (arith, room, len, gone)

@@ -16,7 +16,7 @@ use Rattle.bucket_rules.specs.Row.{Off, after, has, is_none_of, off, row}
 use Rattle.bucket_rules.specs.Rule.{IsLegal}
 use Rattle.bucket_rules.proofs.Fixing as fixing
 use Rattle.bucket_rules.proofs.Soundness.{sound}
-use Rattle.flow_bucket.specs.Held.{off_of}
+use Rattle.bucket_flow.specs.Held.{off_of}
 use Rattle.flow_bucket.specs.LetGo.{AreRising, Below, IsEnded, IsLetGo, Told, runs, told}
 use Rattle.flow_bucket.specs.Stands.{BucketAlike, BucketAnswers, BucketMay, Noted, Said, all_in_use, closed, drained, ended_in, found, idle, made, missing, refused, said_in, stopped, stored, swept, victim}
 use Rattle.flow_bucket.specs.declared.calls.BucketCall.{BucketCall}

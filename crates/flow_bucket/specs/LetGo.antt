@@ -8,7 +8,7 @@ use Rattle.flow_object.specs.Ending.{EndedFlow}
 use Rattle.bucket_rules.specs.declared.fixed.Fixed.{Fixed}
 use Rattle.suri_base.specs.declared.entry.BucketNote.{BucketNote}
 use Rattle.bucket_rules.specs.Row.{Row, row, after, lets_go, has, detached, off}
-use Rattle.flow_bucket.specs.Held.{StandsIf}
+use Rattle.bucket_flow.specs.Held.{StandsIf}
 
 -- the object is that of the run's members, of the verdicts at its closes, of its stops and its nodes, with the layout's setting
 pub record IsObject (s : Fixed) (w : Row) (o : Object) : Type 0 where

@@ -15,8 +15,8 @@ use Rattle.suri_base.specs.declared.entry.BucketNote.TheVariants as note
 use Rattle.bucket_rules.specs.Row.{Row, row, after, has, is_here, is_begun}
 use Rattle.bucket_rules.specs.Own.{awaits, owes}
 use Rattle.bucket_rules.specs.Rule.{MayLook, MayClose, MayEvict, MaySweep, MayDrain, Rule, IsLegal}
-use Rattle.flow_bucket.specs.Held.{Held}
-use Rattle.flow_bucket.specs.Flows.{find_in, IsDistinct}
+use Rattle.bucket_flow.specs.Held.{Held}
+use Rattle.bucket_flow.specs.Flows.{find_in, IsDistinct}
 use Rattle.flow_bucket.specs.LetGo.{IsObject, IsLetGo, Told, told}
 use Rattle.flow_bucket.specs.declared.calls.BucketCall.{BucketCall}
 use Rattle.flow_bucket.specs.declared.calls.BucketCall.TheVariants as call

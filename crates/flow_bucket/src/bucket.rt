@@ -2,10 +2,10 @@
 ghost use Rattle.std.specs.Prelude.{◌≡◌, []};
 
 use crate::calls::{BucketCall, BucketReply};
-use crate::flow::{Flow, facts_of};
-use crate::flows::linked_at;
+use bucket_flow::facts_of;
 use bucket_rules::Fixed;
 use flow_object::Ended;
+use flow_table::{Due, FlowTable};
 use flow_uses::Uses;
 use std::alloc::Global;
 use suri_base::{BucketNote, Capture, Layout, Machine, NoMemory};
@@ -16,9 +16,8 @@ pub struct FlowBucket<'c> {
     pub(crate) capture: &'c Capture,
     pub(crate) layout: Layout,
     pub(crate) number: u32,
-    pub(crate) flows: Vec<Flow>,
-    // Room for the flows that stay, and for those that leave, when all may.
-    pub(crate) kept: Vec<Flow>,
+    pub(crate) flows: FlowTable,
+    // Room for the flows that leave, when all may.
     pub(crate) gone: Vec<Ended>,
     // Room for the first use of a new flow.
     pub(crate) uses: Uses,
@@ -26,11 +25,13 @@ pub struct FlowBucket<'c> {
 }
 
 impl<'c> FlowBucket<'c> {
-    ghost use Rattle.std.specs.Prelude.{◌≡◌, ◌<◌, ◌≤◌, [], ℕ, List, OnOk, vec_len, vec_capacity};
+    ghost use Rattle.std.specs.Prelude.{◌≡◌, ◌<◌, ◌≤◌, [], ℕ, List, OnOk};
     ghost use Rattle.suri_base.specs.declared.entry.Entry.{Entry};
     ghost use Rattle.suri_base.specs.declared.entry.BucketNote.{BucketNote};
     ghost use Rattle.flow_bucket.specs.declared.calls.BucketCall.{BucketCall};
-    ghost use Rattle.flow_bucket.specs.Bucket.{fixed_of, HasEnds, HasRoom, HasUse, BucketStands};
+    ghost use Rattle.flow_table.specs.Dues.{IsDue};
+    ghost use Rattle.flow_table.specs.Slots.{filled};
+    ghost use Rattle.flow_bucket.specs.Bucket.{fixed_of, HasEnds, HasRoom, HasUse, IsNextVictim, BucketStands};
 
     /// An empty bucket of that number, from 0, for the packets of a capture. It takes no memory.
     pub fn new(alloc: Global, capture: &'c Capture, layout: Layout, number: u32) -> FlowBucket<'c>
@@ -42,8 +43,7 @@ impl<'c> FlowBucket<'c> {
             capture,
             layout,
             number,
-            flows: Vec::new(alloc),
-            kept: Vec::new(alloc),
+            flows: FlowTable::new(alloc),
             gone: Vec::new(alloc),
             uses: Uses::new(alloc),
         }
@@ -51,7 +51,7 @@ impl<'c> FlowBucket<'c> {
 
     // Room for one more use of the flow that a frame may join.
     fn reserve_use(&mut self, no: u32) -> Result<(), NoMemory>
-        ensures room { OnOk result (HasUse (fixed_of self.new) no self.new.flows.items) }
+        ensures room { OnOk result (HasUse (fixed_of self.new) no self.new.flows) }
         ensures fixed { fixed_of self.new ≡ fixed_of self.old }
         ensures stands { (past : List (Entry BucketNote)) → BucketStands self.old past → BucketStands self.new past }
         ensures back { (past : List (Entry BucketNote)) → BucketStands self.new past → BucketStands self.old past }
@@ -60,38 +60,53 @@ impl<'c> FlowBucket<'c> {
         let Some(facts) = facts_of(self.capture, no) else {
             return Ok(());
         };
-        let Some(at) = linked_at(&self.flows, &facts.key) else {
+        let Some(slot) = self.flows.linked(&facts.key) else {
             return Ok(());
         };
-        self.flows[at].reserve()
+        self.flows.reserve_join(slot)
     }
 
     // Room for one more flow, and for its first use.
     fn reserve_flow(&mut self) -> Result<(), NoMemory>
-        ensures flow { OnOk result (vec_len self.new.flows < vec_capacity self.new.flows) }
+        ensures flow { OnOk result (0 < self.new.flows.begins) }
         ensures use_ { OnOk result (0 < self.new.uses.room) }
         ensures fixed { fixed_of self.new ≡ fixed_of self.old }
-        ensures flows { self.new.flows.items ≡ self.old.flows.items }
+        ensures flows { filled self.new.flows.slots ≡ filled self.old.flows.slots }
         ensures kept { (other : BucketCall) → HasRoom self.old other → HasRoom self.new other }
     {
-        if self.flows.reserve(1).is_err() {
-            return Err(NoMemory);
-        }
+        self.flows.reserve_begin()?;
         self.uses.reserve()
     }
 
-    // Room for all flows, whether they stay or leave.
+    // Room for all flows, where they leave.
     fn reserve_ends(&mut self) -> Result<(), NoMemory>
         ensures room { OnOk result (HasEnds self.new) }
         ensures fixed { fixed_of self.new ≡ fixed_of self.old }
-        ensures flows { self.new.flows.items ≡ self.old.flows.items }
+        ensures flows { filled self.new.flows.slots ≡ filled self.old.flows.slots }
         ensures kept { (other : BucketCall) → HasRoom self.old other → HasRoom self.new other }
     {
-        let count = self.flows.len();
-        if self.kept.reserve(count).is_err() || self.gone.reserve(count).is_err() {
-            return Err(NoMemory);
+        match self.gone.reserve(self.flows.count() as usize) {
+            Ok(_) => Ok(()),
+            Err(_) => Err(NoMemory),
         }
-        Ok(())
+    }
+
+    /// The linked run that is due first, by the timeouts of `emergency` or by the normal ones: with the least deadline, then
+    /// the least number. `None` comes exactly where no run is linked.
+    pub fn due(&self, emergency: bool) -> Option<Due>
+        ensures { IsDue emergency (filled self.now.flows.slots) result }
+    {
+        self.flows.due(emergency)
+    }
+
+    /// The run that would leave by the next eviction. `None` comes exactly where each run is used.
+    pub fn next_victim(&self) -> Option<u32>
+        ensures { IsNextVictim (filled self.now.flows.slots) result }
+    {
+        match self.flows.victim() {
+            None => None,
+            Some(slot) => Some(self.flows.flow(slot).run()),
+        }
     }
 }
 

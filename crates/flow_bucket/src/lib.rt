@@ -4,8 +4,6 @@
 mod bucket;
 mod calls;
 mod ends;
-mod flow;
-mod flows;
 mod laws;
 mod looks;
 #[cfg(test)]

@@ -1,5 +1,5 @@
 //! What a bucket does for a packet: looks, first packets, closes.
-ghost use Rattle.std.specs.Prelude.{◌≡◌, ◌<◌, ◌^◌, ℕ, List, length, vec_len, vec_capacity};
+ghost use Rattle.std.specs.Prelude.{◌≡◌, ◌<◌, ◌^◌, ℕ, List, None, Some, true, false, IfNone, IfSome, length, slice_get, slice_set};
 ghost use Rattle.std.specs.Option.{is_some};
 ghost use Rattle.suri_base.specs.declared.entry.Entry.{Entry};
 ghost use Rattle.suri_base.specs.declared.entry.BucketNote.{BucketNote};
@@ -8,13 +8,16 @@ ghost use Rattle.bucket_rules.specs.Rule.{MayLook, MayClose};
 ghost use Rattle.flow_bucket.specs.declared.calls.BucketCall.TheVariants as call;
 ghost use Rattle.flow_bucket.specs.declared.calls.BucketReply.TheVariants as reply;
 ghost use Rattle.flow_bucket.specs.Bucket.{fixed_of, HasUse, BucketStands};
+ghost use Rattle.bucket_rules.specs.Row.{is_none_of, off};
+ghost use Rattle.bucket_flow.specs.Held.{Held, ended_by, off_by};
+ghost use Rattle.flow_table.specs.Slots.{IsFilled, filled};
 ghost use Rattle.flow_bucket.specs.Stands.{Done, MayMake, MaySettle, run_of};
 
 use crate::bucket::FlowBucket;
 use crate::calls::BucketReply;
-use crate::flow::{Flow, facts_of};
-use crate::flows::{detach, linked_at, put, take_out, used_at};
+use bucket_flow::{Cause, facts_of};
 use flow_object::{Ended, FlowObj};
+use flow_table::FlowTable;
 use flow_uses::Uses;
 use std::mem;
 use suri_base::{App, BucketNote, Segment, Segments};
@@ -75,6 +78,19 @@ fn closed(
     (BucketReply::Closed { run, freed, ended }, note)
 }
 
+// The flow in a slot is detached, and leaves if nothing uses it.
+fn detach(flows: &mut FlowTable, slot: u32, cause: Cause) -> Option<Ended>
+    requires { IsFilled flows.old.slots slot }
+    ensures leaves { IfSome result (λ ended. (f : Held) → slice_get flows.old.slots slot ≡ Some (Some f) → (is_none_of f.uses ≡ true) × (ended ≡ ended_by (off cause.reason cause.emergency) f) × (flows.new.slots ≡ slice_set flows.old.slots slot None)) }
+    ensures stays { IfNone result ((f : Held) → slice_get flows.old.slots slot ≡ Some (Some f) → (is_none_of f.uses ≡ false) × (flows.new.slots ≡ slice_set flows.old.slots slot (Some (off_by cause f)))) }
+{
+    if flows.flow(slot).is_free() {
+        return Some(flows.take_out(slot, cause));
+    }
+    flows.detach(slot, cause);
+    None
+}
+
 impl<'c> FlowBucket<'c> {
     /// Looks for the run that a packet joins.
     pub(crate) fn look(
@@ -84,25 +100,24 @@ impl<'c> FlowBucket<'c> {
         emergency: bool,
         seen: u64,
     ) -> (BucketReply, BucketNote)
-        requires room { HasUse (fixed_of self.old) no self.old.flows.items }
+        requires room { HasUse (fixed_of self.old) no self.old.flows }
         requires may { (past : List (Entry BucketNote)) × BucketStands self.old past × MayLook (fixed_of self.old) past role no }
         ensures fixed { fixed_of self.new ≡ fixed_of self.old }
         ensures done { (past : List (Entry BucketNote)) → BucketStands self.old past → MayLook (fixed_of self.old) past role no
-            → Done (fixed_of self.old) past role (call.Look no emergency seen) result.0 result.1 self.new.flows.items }
+            → Done (fixed_of self.old) past role (call.Look no emergency seen) result.0 result.1 (filled self.new.flows.slots) }
     {
         let capture = self.capture;
         let _frames = capture.count();
         let Some(facts) = facts_of(capture, no) else {
             unreachable!()
         };
-        let Some(at) = linked_at(&self.flows, &facts.key) else {
+        let Some(slot) = self.flows.linked(&facts.key) else {
             return missing(no, emergency, seen, None);
         };
-        match self.flows[at].cut(&facts, emergency) {
+        match self.flows.flow(slot).cut(&facts, emergency) {
             None => {
-                let flow = &mut self.flows[at];
-                let run = flow.run();
-                let offer = flow.join(&facts, capture);
+                let run = self.flows.flow(slot).run();
+                let offer = self.flows.join(slot, &facts, capture);
                 (
                     BucketReply::Found { run, offer },
                     BucketNote::Found {
@@ -115,7 +130,7 @@ impl<'c> FlowBucket<'c> {
                 )
             }
             Some(cause) => {
-                let ended = detach(&mut self.flows, at, cause);
+                let ended = detach(&mut self.flows, slot, cause);
                 missing(no, emergency, seen, ended)
             }
         }
@@ -128,20 +143,19 @@ impl<'c> FlowBucket<'c> {
         no: u32,
         obj: Box<FlowObj>,
     ) -> (BucketReply, BucketNote)
-        requires room { (vec_len self.old.flows < vec_capacity self.old.flows) × (0 < self.old.uses.room) }
+        requires room { (0 < self.old.flows.begins) × (0 < self.old.uses.room) }
         requires may { (past : List (Entry BucketNote)) × BucketStands self.old past × MayMake (fixed_of self.old) past role no obj.value }
         ensures fixed { fixed_of self.new ≡ fixed_of self.old }
         ensures done { (past : List (Entry BucketNote)) → BucketStands self.old past → MayMake (fixed_of self.old) past role no obj.value
-            → Done (fixed_of self.old) past role (call.Make no obj) result.0 result.1 self.new.flows.items }
+            → Done (fixed_of self.old) past role (call.Make no obj) result.0 result.1 (filled self.new.flows.slots) }
     {
         let capture = self.capture;
         let Some(facts) = facts_of(capture, no) else {
             unreachable!()
         };
-        let alloc = *self.flows.allocator();
+        let alloc = *self.gone.allocator();
         let uses = mem::replace(&mut self.uses, Uses::new(alloc));
-        let (flow, offer) = Flow::begin(obj, uses, &facts, capture);
-        put(&mut self.flows, flow);
+        let offer = self.flows.begin(obj, uses, &facts, capture);
         (BucketReply::Made { offer }, BucketNote::Made { no, offer })
     }
 
@@ -155,18 +169,18 @@ impl<'c> FlowBucket<'c> {
         requires may { (past : List (Entry BucketNote)) × BucketStands self.old past × MaySettle past role no node }
         ensures fixed { fixed_of self.new ≡ fixed_of self.old }
         ensures done { (past : List (Entry BucketNote)) → BucketStands self.old past → MaySettle past role no node
-            → Done (fixed_of self.old) past role (call.Segment no node) result.0 result.1 self.new.flows.items }
+            → Done (fixed_of self.old) past role (call.Segment no node) result.0 result.1 (filled self.new.flows.slots) }
     {
-        let Some(at) = used_at(&self.flows, no) else {
+        let Some(slot) = self.flows.used(no) else {
             unreachable!()
         };
         match node {
             Some(node) => {
-                self.flows[at].settle(Some(node));
+                self.flows.settle(slot, Some(node));
                 (BucketReply::Stored, BucketNote::Stored { no })
             }
             None => {
-                self.flows[at].settle(None);
+                self.flows.settle(slot, None);
                 (BucketReply::Stopped, BucketNote::Stopped { no })
             }
         }
@@ -177,18 +191,17 @@ impl<'c> FlowBucket<'c> {
         requires may { (past : List (Entry BucketNote)) × BucketStands self.old past × MayClose past role no }
         ensures fixed { fixed_of self.new ≡ fixed_of self.old }
         ensures done { (past : List (Entry BucketNote)) → BucketStands self.old past → MayClose past role no
-            → Done (fixed_of self.old) past role (call.Close no app) result.0 result.1 self.new.flows.items }
+            → Done (fixed_of self.old) past role (call.Close no app) result.0 result.1 (filled self.new.flows.slots) }
     {
-        let Some(at) = used_at(&self.flows, no) else {
+        let Some(slot) = self.flows.used(no) else {
             return (BucketReply::Idle, BucketNote::Idle { no, app });
         };
-        let flow = &mut self.flows[at];
-        let run = flow.run();
-        let freed = flow.close(no, app);
-        let Some(cause) = flow.gone() else {
+        let run = self.flows.flow(slot).run();
+        let freed = self.flows.close(slot, no, app);
+        let Some(cause) = self.flows.flow(slot).gone() else {
             return closed(no, app, run, freed, None);
         };
-        let ended = take_out(&mut self.flows, at, cause);
+        let ended = self.flows.take_out(slot, cause);
         closed(no, app, run, freed, Some(ended))
     }
 }

@@ -4,6 +4,7 @@ ghost use Rattle.suri_base.specs.Chain.{IsAlone};
 ghost use Rattle.suri_base.specs.declared.entry.Entry.{Entry};
 ghost use Rattle.suri_base.specs.declared.entry.BucketNote.{BucketNote};
 ghost use Rattle.suri_base.specs.declared.seen.Seen.TheVariants.{Bears};
+ghost use Rattle.suri_base.specs.declared.key.Side.TheVariants.{FromB};
 ghost use Rattle.suri_base.specs.Dealing as dealt;
 ghost use Rattle.suri_base.specs.declared.facts.Facts.{Facts};
 ghost use Rattle.bucket_rules.specs.Packets.{bearing};
@@ -11,9 +12,10 @@ ghost use Rattle.bucket_rules.specs.Own as own;
 ghost use Rattle.flow_bucket.specs.Bucket.{fixed_of, BucketStands};
 ghost use Rattle.flow_bucket.specs.Stands.{BucketMay};
 
-use crate::flow::facts_of;
 use crate::{BucketCall, BucketReply, FlowBucket};
+use bucket_flow::facts_of;
 use flow_object::{Ended, FlowObj};
+use flow_table::Due;
 use std::alloc::Global;
 use std::process::Abort;
 use std::test::Fail;
@@ -720,6 +722,37 @@ fn datagrams(alloc: Global) -> Result<Capture, NoMemory> {
     Capture::of(alloc, bytes, frames, clocks, seen, 0)
 }
 
+// A datagram the other way of the key with the port 1000.
+fn answer(no: u32, time: u64, next: u32) -> Seen
+    ensures { result ≡ Bears (record DATAGRAM { no = no; time = time; clock = time; side = FromB; next = next }) }
+{
+    Seen::Bears(Facts {
+        no,
+        time,
+        clock: time,
+        side: Side::FromB,
+        next,
+        ..DATAGRAM
+    })
+}
+
+// Two datagrams of a key, one each way, and one of another key.
+fn answered(alloc: Global) -> Result<Capture, NoMemory> {
+    let bytes = Vec::new(alloc);
+    let frames = vec![in alloc;
+        frame(1, START),
+        frame(2, START + SECOND),
+        frame(3, START + 2 * SECOND),
+    ]?;
+    let clocks = vec![in alloc; START, START + SECOND, START + 2 * SECOND]?;
+    let seen = vec![in alloc;
+        datagram(1, START, 1000, 2),
+        answer(2, START + SECOND, 0),
+        datagram(3, START + 2 * SECOND, 1001, 0),
+    ]?;
+    Capture::of(alloc, bytes, frames, clocks, seen, 0)
+}
+
 // How many packets a large capture has.
 const MANY: u32 = 300;
 
@@ -891,6 +924,48 @@ fn the_oldest_run_is_evicted(rt: HostRuntime) -> Result<(), Fail> {
     assert_eq!(rt; third, (3, Reason::Forced, false));
     let reply = evict(&rt, &mut bucket, &mut past, 5)?;
     assert!(rt; matches!(reply, BucketReply::AllInUse(1)));
+    Ok(())
+}
+
+// Of two runs that are due together the lesser is told, by the timeouts that are asked for; a run in use is no victim.
+#[test]
+fn what_is_due_is_told(rt: HostRuntime) -> Result<(), Fail> {
+    let capture = datagrams(rt.alloc())?;
+    let mut bucket = FlowBucket::new(rt.alloc(), &capture, LAYOUT, 0);
+    let mut past = Vec::new(rt.alloc());
+    assert!(rt; bucket.due(false).is_none() && bucket.next_victim().is_none());
+    take_each(&rt, rt.alloc(), &mut bucket, &mut past, 1, 3)?;
+    let normal = Due {
+        deadline: 1_700_000_030_000_000_000,
+        run: 1,
+    };
+    let short = Due {
+        deadline: 1_700_000_010_000_000_000,
+        run: 1,
+    };
+    assert_eq!(rt; bucket.due(false), Some(normal));
+    assert_eq!(rt; bucket.due(true), Some(short));
+    assert!(rt; bucket.next_victim().is_none());
+    close_each(&rt, &mut bucket, &mut past, 1, 3)?;
+    assert_eq!(rt; bucket.next_victim(), Some(1));
+    Ok(())
+}
+
+// A run that was answered has the longer timeout.
+#[test]
+fn an_answered_run_is_due_later(rt: HostRuntime) -> Result<(), Fail> {
+    let capture = answered(rt.alloc())?;
+    let mut bucket = FlowBucket::new(rt.alloc(), &capture, LAYOUT, 0);
+    let mut past = Vec::new(rt.alloc());
+    let _ = take(&rt, rt.alloc(), &mut bucket, &mut past, 1)?;
+    let reply = look(&rt, &mut bucket, &mut past, 2, false)?;
+    assert!(rt; matches!(reply, BucketReply::Found { run: 1, .. }));
+    let _ = take(&rt, rt.alloc(), &mut bucket, &mut past, 3)?;
+    let wanted = Due {
+        deadline: 1_700_000_032_000_000_000,
+        run: 3,
+    };
+    assert_eq!(rt; bucket.due(false), Some(wanted));
     Ok(())
 }
 

@@ -18,8 +18,8 @@ use Rattle.slot_order.proofs.Index.{first_found, found, no_some}
 use Rattle.slot_order.specs.Index.{IsFound, IsIndex}
 use Rattle.slot_order.specs.Next.{IsNext}
 use Rattle.slot_order.specs.Order.{IsFirst, slot_of}
-use Rattle.flow_orders.specs.Flow.{Before, Held, is_linked, is_unused_held, linked_with}
-use Rattle.flow_orders.specs.Keys.{bears_deadline, bears_key, bears_unused, deadline, deadline_of, last_seen}
+use Rattle.flow_orders.specs.Flow.{Before, Held, deadline_of, is_linked, is_unused_held, linked_with}
+use Rattle.flow_orders.specs.Keys.{bears_deadline, bears_key, bears_unused, deadline, last_seen}
 use Rattle.flow_orders.specs.Finding.{comes_after, IsDueAt, IsFirstDue, IsLeastUnused, IsNextDue, IsStep}
 
 pub self : {K : Type 0} {cmp : K → K → Ordering} (t : IsTotalOrder cmp) (k : K) → is_eq (cmp k k) ≡ true

@@ -4,8 +4,8 @@ use Rattle.std.specs.Ordering.{is_gt}
 use Rattle.key_order.specs.declared.ages.Age.{Age}
 use Rattle.key_order.specs.Ages.{age_cmp}
 use Rattle.slot_order.specs.Order.{slot_of}
-use Rattle.flow_orders.specs.Flow.{Before, Held, is_linked, is_unused_held}
-use Rattle.flow_orders.specs.Keys.{deadline, deadline_of}
+use Rattle.flow_orders.specs.Flow.{Before, Held, deadline_of, is_linked, is_unused_held}
+use Rattle.flow_orders.specs.Keys.{deadline}
 
 -- the age is above the other, where there is another
 abbrev pub comes_after : Option Age → Age → Bool

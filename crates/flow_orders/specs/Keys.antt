@@ -1,13 +1,11 @@
 -- By what the flows of a bucket are ordered.
-use Rattle.std.specs.Prelude.{ℕ, ◌+◌, Bool, true, false, Option}
+use Rattle.std.specs.Prelude.{ℕ, Bool, true, false, Option}
 use Rattle.key_order.specs.declared.ages.Age.{Age}
 use Rattle.key_order.specs.declared.places.KeyPlace.{KeyPlace}
 use Rattle.key_order.specs.Ages.{age_cmp, age_of}
 use Rattle.key_order.specs.KeyPlaces.{place_cmp, place_of}
-use Rattle.timeout_table.specs.Table.{timeout_of}
-use Rattle.flow_object.specs.Object.{class_in}
 use Rattle.slot_order.specs.Index.{bears_by, key_in}
-use Rattle.flow_orders.specs.Flow.{Held, has, is_linked, is_unused_held}
+use Rattle.flow_orders.specs.Flow.{Held, deadline_of, has, is_linked, is_unused_held}
 use Rattle.flow_orders.specs.declared.marks.Marks.{Marks}
 
 abbrev pub is_linked_held : Held → Bool
@@ -18,10 +16,6 @@ key_of f = place_of f.obj.sums.key
 
 abbrev pub last_seen : Held → Age
 last_seen f = age_of f.obj.sums.last_clock f.run
-
--- the last clock at which it hasn't expired, by the table that is chosen
-abbrev pub deadline_of : Bool → Held → ℕ
-deadline_of emergency f = f.obj.sums.last_clock + timeout_of f.obj.sums.key.proto (class_in f.obj) emergency
 
 abbrev pub deadline : Bool → Held → Age
 deadline emergency f = age_of (deadline_of emergency f) f.run

@@ -1,8 +1,9 @@
 //! By what a flow stands in the orders.
 ghost use Rattle.std.specs.Prelude.{◌≡◌, ◌+◌, ◌<◌, ◌^◌, ℕ, false, true, Some};
-ghost use Rattle.flow_orders.specs.Flow.{Held, is_linked, is_unused_held};
-ghost use Rattle.flow_orders.specs.Keys.{deadline_of, marks_of};
+ghost use Rattle.flow_orders.specs.Flow.{Held, deadline_of, is_linked, is_unused_held};
+ghost use Rattle.flow_orders.specs.Keys.{marks_of};
 
+use bucket_flow::Flow;
 use key_order::{Age, KeyPlace, place};
 use suri_base::Key;
 
@@ -31,6 +32,23 @@ impl Marks {
             due_in_emergency: None,
             unused: None,
         }
+    }
+
+    /// Those of a flow.
+    pub fn of(flow: &Flow) -> Marks
+        ensures { result ≡ marks_of (Some flow.now) }
+    {
+        if !flow.is_linked() {
+            return Marks::none();
+        }
+        Marks::linked(
+            flow.key(),
+            flow.run(),
+            flow.last_clock(),
+            flow.deadline(false),
+            flow.deadline(true),
+            flow.is_unused(),
+        )
     }
 
     /// Those of a linked flow, from its key, its run, the clock of its last packet and its two deadlines.

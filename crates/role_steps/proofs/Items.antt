@@ -4,7 +4,7 @@ use Rattle.std.specs.Prelude.{All}
 use Rattle.bucket_laws.specs.Leaving.{Gone, runs}
 use Rattle.bucket_rules.specs.Rule.{IsLegal}
 use Rattle.bucket_rules.specs.declared.fixed.Fixed.{Fixed}
-use Rattle.flow_bucket.specs.Held.{StandsIf}
+use Rattle.bucket_flow.specs.Held.{StandsIf}
 use Rattle.flow_object.specs.Ending.{EndedFlow}
 use Rattle.flow_object.specs.Line.{line_of}
 use Rattle.flow_object.specs.Object.{Stops, nodes_in, stops_in}

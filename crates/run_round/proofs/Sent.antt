@@ -56,7 +56,12 @@ use Rattle.flow_pool.specs.contracts.calls.PoolCall.{the_row as pool_call}
 use Rattle.flow_pool.specs.contracts.calls.PoolReply.{the_row as pool_reply}
 use Rattle.flow_pool.specs.contracts.calls.PoolSetting.{the_row as pool_setting}
 use Rattle.flow_pool.specs.contracts.pool.FlowPoolMachine.TheImpl.{ghosts as pool_ghosts}
-use Rattle.flow_bucket.specs.contracts.flow.Flow.{the_row as flow_row}
+use Rattle.bucket_flow.specs.contracts.flow.Flow.{the_row as flow_row}
+use Rattle.key_order.specs.contracts.ages.Age.{the_row as age_row}
+use Rattle.key_order.specs.contracts.places.KeyPlace.{the_row as place_row}
+use Rattle.slot_order.proofs.order.Order.TheSendSync as order
+use Rattle.flow_orders.specs.contracts.orders.Orders.{the_row as orders_row}
+use Rattle.flow_table.specs.contracts.table.FlowTable.{the_row as table_row}
 use Rattle.flow_bucket.specs.contracts.bucket.FlowBucket.{the_row as bucket_row}
 use Rattle.flow_bucket.specs.contracts.calls.BucketCall.{the_row as bucket_call}
 use Rattle.flow_bucket.specs.contracts.calls.BucketReply.{the_row as bucket_reply}
@@ -230,8 +235,20 @@ uses_send = search (sendable, crosses) depth 20
 flow_send : IsSend flow_row
 flow_send = search (sendable, crosses, object_send, uses_send) depth 20
 
+age_send : IsSend age_row
+age_send = search (sendable, crosses) depth 20
+
+place_send : IsSend place_row
+place_send = search (sendable, crosses) depth 20
+
+orders_send : IsSend orders_row
+orders_send = search (sendable, crosses, age_send, place_send, order.the_send) depth 20
+
+table_send : IsSend table_row
+table_send = search (sendable, crosses, flow_send, orders_send) depth 20
+
 bucket_send : (a : _) → IsSend (bucket_row a)
-bucket_send a = search (sendable, crosses, flow_send, uses_send, ended_send, capture_sync) depth 20
+bucket_send a = search (sendable, crosses, table_send, uses_send, ended_send, capture_sync) depth 20
 
 seg_note_send : IsSend seg_note
 seg_note_send = search (sendable, crosses) depth 20

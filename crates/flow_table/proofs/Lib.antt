@@ -1,0 +1,9 @@
+pub mod Finding
+pub mod Keeping
+pub mod Marked
+pub mod Ordered
+pub mod Places
+pub mod Slots
+pub mod Sound
+pub mod Sweeping
+pub mod Walking
