@@ -54,18 +54,18 @@ use Rattle.suri_base.specs.declared.entry.PoolNote.{PoolNote}
 use Rattle.suri_base.specs.declared.entry.PoolNote.TheVariants.{Put}
 
 -- an element of a list that grew is one of those that came, behind the whole list from before, or stood there before
-came_or_was : {A : Type 0} (x : A) (past since old : List A) → At x past (since ++ old) → Begins old past ⊎ At x past old
+pub came_or_was : {A : Type 0} (x : A) (past since old : List A) → At x past (since ++ old) → Begins old past ⊎ At x past old
 came_or_was x past [] old h = inr h
 came_or_was x past (y ∷ since) old h = ⊎_elim (λ z. inl (since, sym z.1)) (λ z. came_or_was x past since old z) h
 
 -- an entry of another role than all those that came stood there before
-was : {N : Type 0} (role : ℕ) (e : Entry N) (past since old : List (Entry N)) → All (λ (d : Entry N). d.role ≡ role) since → (e.role ≡ role → ⊥) → At e past (since ++ old) → At e past old
+pub was : {N : Type 0} (role : ℕ) (e : Entry N) (past since old : List (Entry N)) → All (λ (d : Entry N). d.role ≡ role) since → (e.role ≡ role → ⊥) → At e past (since ++ old) → At e past old
 was role e past [] old by apart h = h
 was {N} role e past (y ∷ since) old by apart h = ⊎_elim
     (λ z. absurd (apart (subst (λ (d : Entry N). d.role ≡ role) z.0 (All-head (λ (d : Entry N). d.role ≡ role) y since by))))
     (λ z. was role e past since old (All-tail (λ (d : Entry N). d.role ≡ role) y since by) apart z) h
 
-All-at : {A : Type 0} (P : A → Type 0) (x : A) (past h : List A) → All P h → At x past h → P x
+pub All-at : {A : Type 0} (P : A → Type 0) (x : A) (past h : List A) → All P h → At x past h → P x
 All-at P x past [] all a = absurd a
 All-at P x past (y ∷ h) all a = ⊎_elim (λ z. subst P z.0 (All-head P y h all)) (λ z. All-at P x past h (All-tail P y h all) z) a
 
@@ -137,7 +137,7 @@ to_waited a n (suc k) hands role i low few h = ⊎_elim
 
 -- sums
 
-member : (n k : ℕ) (f : ℕ → ℕ) → k < n → f k ≤ sum_below n f
+pub member : (n k : ℕ) (f : ℕ → ℕ) → k < n → f k ≤ sum_below n f
 member zero k f h = absurd (omega (arith, h))
 member (suc n) k f h = ⊎_elim (λ e. let z = ap f e.1 in omega (arith, z)) (λ e. let z = member n k f (less k n h e.1) in omega (arith, z)) (eqb_tells k n)
   where
@@ -158,7 +158,7 @@ tally_at {N} m e past (x ∷ h) a = ⊎_elim
     (λ z. let y = ap (λ (d : Entry N). m d.note) z.0 in let v = ap (tally m) z.1 in omega (arith, y, v))
     (λ z. omega (arith, tally_at m e past h z)) a
 
-note_in : (P : BucketNote → Type 0) (b : ℕ) (n : BucketNote) (left : List Gone) (before acts : List Act) → Notes P acts → At (on_bucket b n left) before acts → P n
+pub note_in : (P : BucketNote → Type 0) (b : ℕ) (n : BucketNote) (left : List Gone) (before acts : List Act) → Notes P acts → At (on_bucket b n left) before acts → P n
 note_in P b n left before [] h a = absurd a
 note_in P b n left before (x ∷ acts) h a = ⊎_elim (λ z. subst (λ (y : Act). NoteOf P y) z.0 h.0) (λ z. note_in P b n left before acts h.1 z) a
 
@@ -166,7 +166,7 @@ note_in P b n left before (x ∷ acts) h a = ⊎_elim (λ z. subst (λ (y : Act)
 
 module _ (w : Setup) (t : Histories) (r : ℕ) (at : IsRoundEnd w t r) where
   -- what left by an act was let go by its entry
-  gone_by : (role b : ℕ) (n : BucketNote) (left : List Gone) (before : List Act) (run : ℕ) → role < roles w → At (on_bucket b n left) before (at.acts role) → 1 ≤ count_run run left
+  pub gone_by : (role b : ℕ) (n : BucketNote) (left : List Gone) (before : List Act) (run : ℕ) → role < roles w → At (on_bucket b n left) before (at.acts role) → 1 ≤ count_run run left
       → (g : HasGone w t run) × (g.note ≡ n)
   gone_by role b n left before run real a counted =
       let own = at.own role real in
@@ -185,7 +185,7 @@ module _ (w : Setup) (t : Histories) (r : ℕ) (at : IsRoundEnd w t r) where
       is_so false h = absurd (omega (arith, h))
 
   -- an entry of the pool is an act of its role
-  act_of : (role step : ℕ) (n : PoolNote) (past : List (Entry PoolNote)) → role < roles w → At (entry role step n) past t.pool → (before : List Act) × At (on_pool n (length past + 1)) before (at.acts role)
+  pub act_of : (role step : ℕ) (n : PoolNote) (past : List (Entry PoolNote)) → role < roles w → At (entry role step n) past t.pool → (before : List Act) × At (on_pool n (length past + 1)) before (at.acts role)
   act_of role step n past real a =
       let done : Act = on_pool n (length past + 1) in
       let all = to_entries (entry role step done) (pool_acts past) (pool_acts t.pool) (to_pool (entry role step n) past t.pool a) in
@@ -434,7 +434,7 @@ module _ (w : Setup) (d : IsSetup w) (t : Histories) (l : AreScripted w t) (i : 
       (λ b. put_by r here whole b)
       (came_or_was (entry (recycler w) step (Put run)) past g.0 (c.cut r).pool (subst (λ (h : List (Entry PoolNote)). At (entry (recycler w) step (Put run)) past h) g.1 a))
 
-  recycler_later : At (entry (recycler w) step (Put run)) past t.pool → IsPutLater w t l.acts i step run past
+  pub recycler_later : At (entry (recycler w) step (Put run)) past t.pool → IsPutLater w t l.acts i step run past
   recycler_later a =
       put_by (rounds w) (omega arith) a
       (subst (λ (h : Histories). At (entry (recycler w) step (Put run)) past h.pool) (sym c.last)
@@ -518,7 +518,7 @@ module _ (w : Setup) (d : IsSetup w) (t : Histories) (l : AreScripted w t) (i : 
       in_last_round g.0 (omega (arith, e, same_note, above round h, below_end g.0.bucket g.0.real g.0.role g.0.step g.0.note g.0.past g.0.place))
   of_end (of_drain h) = by_drain h
 
-  end_later : At (entry (ender w) step (Put run)) past t.pool → HasGoneBefore w t i.last step run × Begins i.last.pool past
+  pub end_later : At (entry (ender w) step (Put run)) past t.pool → HasGoneBefore w t i.last step run × Begins i.last.pool past
   end_later a = (of_end (ender_puts w t l step run past a), behind_all)
     where
       behind_all : Begins i.last.pool past

@@ -16,3 +16,5 @@ pub mod SweepRounds
 pub mod SweptAll
 pub mod Rising
 pub mod Later
+pub mod Turning
+pub mod Naming

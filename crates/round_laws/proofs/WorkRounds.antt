@@ -467,6 +467,23 @@ module _ (w : Setup) (r : ℕ) (within : r ≤ rounds w) where
   since start s acts e had [] t h = let same : s ≡ t = cc in subst (λ (x : Stand). Since x []) same (record { had = had; notes = tt })
   since start s acts e had (a ∷ now) t h = since_more (stand_after w start (now ++ acts)) t a now h (λ x q. since start s acts e had now x q)
 
+-- a worker turns the object of the run in front of its hand, for a frame of its round
+turn_of : (w : Setup) (k : ℕ) (p : Stage) (s t : Stand) (run f i : ℕ) → StageOf w.layout.round k p → step_at w 0 p s (on_pool (Turn run f) i) ≡ Some t
+    → (round_of f w.layout.round ≡ k) × (front_is run s.hand ≡ true)
+turn_of w k (turning g todo) s t run f i here h =
+    let q = both (f == g) (front_is run s.hand) (only_some ((f == g) && front_is run s.hand) (held_at (granted g todo) (behind s.hand) s) t h).0 in
+    (named w k f g q.0 here.0, q.1)
+turn_of w k between s t run f i here h = cc
+turn_of w k (looking todo) s t run f i here h = cc
+turn_of w k (missed g todo) s t run f i here h = cc
+turn_of w k (evicting g j todo) s t run f i here h = cc
+turn_of w k (granted g todo) s t run f i here h = cc
+turn_of w k (denied g todo) s t run f i here h = cc
+turn_of w k (asking g todo) s t run f i here h = cc
+turn_of w k (settling g had todo) s t run f i here h = cc
+turn_of w k (closing todo) s t run f i here h = cc
+turn_of w k (freeing freed todo) s t run f i here h = cc
+
 -- what a worker did in its first rounds, and what it does after them
 
 module _ (w : Setup) (role : ℕ) (from : RoundsFrom w.layout.round 0 (work_of w role)) where
@@ -504,20 +521,33 @@ module _ (w : Setup) (role : ℕ) (from : RoundsFrom w.layout.round 0 (work_of w
       let y = hands_at (rounds w - suc r) (stand_after w start (now ++ acts)) more k in
       (since w r (omega (arith, within)) start x.0 acts x.1 x.2 now y.0 y.1).notes
 
-  -- where a worker that had ended so many rounds acts on a bucket later, it has put as many hands away
-  pub put_away : (r : ℕ) → r ≤ rounds w → (acts now : List Act) (hands : List (List Gone)) → EndedRounds w role r acts hands → (s t : Stand) (b : ℕ) (n : BucketNote) (left : List Gone)
-      → stand_after w start (now ++ acts) ≡ Some s → after_act w s (on_bucket b n left) ≡ Some t → r ≤ length s.hands
-  put_away r within acts now hands h s t b n left e m =
+  -- where a worker that had ended so many rounds later does what it never does between two batches, it has put as many hands away
+  away_by : (r : ℕ) → r ≤ rounds w → (acts now : List Act) (hands : List (List Gone)) → EndedRounds w role r acts hands → (s t : Stand) (a : Act)
+      → ((u v : Stand) → step_at w 0 between u a ≡ Some v → ⊥) → stand_after w start (now ++ acts) ≡ Some s → after_act w s a ≡ Some t → r ≤ length s.hands
+  away_by r within acts now hands h s t a never e m =
       let x = had_ended r acts hands h in
       let y = (since w r within start x.0 acts x.1 x.2 now s e).had in
       let k = kept_all w 0 (length (work_of w role)) start (record { got = refl; left = refl; nodes = refl; freed = refl; rounds = omega arith }) (now ++ acts) s e in
       ⊎_elim
       (λ z. omega (arith, z, y.is_in.rest.0, k.rounds, length_rounds w role))
-      (λ z. absurd (rests s t (subst (λ (p : Stage). step_at w 0 p s (on_bucket b n left) ≡ Some t) z.0 (one_step w 0 s t (on_bucket b n left) m))))
+      (λ z. absurd (never s t (subst (λ (p : Stage). step_at w 0 p s a ≡ Some t) z.0 (one_step w 0 s t a m))))
       y.past
+
+  -- so where it acts on a bucket
+  pub put_away : (r : ℕ) → r ≤ rounds w → (acts now : List Act) (hands : List (List Gone)) → EndedRounds w role r acts hands → (s t : Stand) (b : ℕ) (n : BucketNote) (left : List Gone)
+      → stand_after w start (now ++ acts) ≡ Some s → after_act w s (on_bucket b n left) ≡ Some t → r ≤ length s.hands
+  put_away r within acts now hands h s t b n left e m = away_by r within acts now hands h s t (on_bucket b n left) rests e m
     where
-      rests : (s t : Stand) → step_at w 0 between s (on_bucket b n left) ≡ Some t → ⊥
-      rests s t q = cc
+      rests : (u v : Stand) → step_at w 0 between u (on_bucket b n left) ≡ Some v → ⊥
+      rests u v q = cc
+
+  -- and where it turns an object
+  pub turned_away : (r : ℕ) → r ≤ rounds w → (acts now : List Act) (hands : List (List Gone)) → EndedRounds w role r acts hands → (s t : Stand) (run f i : ℕ)
+      → stand_after w start (now ++ acts) ≡ Some s → after_act w s (on_pool (Turn run f) i) ≡ Some t → r ≤ length s.hands
+  turned_away r within acts now hands h s t run f i e m = away_by r within acts now hands h s t (on_pool (Turn run f) i) rests e m
+    where
+      rests : (u v : Stand) → step_at w 0 between u (on_pool (Turn run f) i) ≡ Some v → ⊥
+      rests u v q = cc
 
   -- the hands of the rounds that it has ended are hands that it put away, or has
   pub ended_hands : (run j r : ℕ) → r < rounds w → (acts : List Act) (hands : List (List Gone)) → EndedRounds w role (suc r) acts hands
@@ -531,9 +561,19 @@ module _ (w : Setup) (role : ℕ) (from : RoundsFrom w.layout.round 0 (work_of w
 
   -- an act on a bucket is of the round that follows those whose hands were put away
   pub worked_in : (acts : List Act) (s t : Stand) (b : ℕ) (n : BucketNote) (left : List Gone) → stand_after w start acts ≡ Some s → after_act w s (on_bucket b n left) ≡ Some t
-      → length s.hands ≤ round_in w n
+      → length s.hands ≡ round_in w n
   worked_in acts s t b n left e m =
       let x = where_at acts s e in
       let k = kept_all w 0 (length (work_of w role)) start (record { got = refl; left = refl; nodes = refl; freed = refl; rounds = omega arith }) acts s e in
       let at : round_in w n ≡ x.round = (one_more w x.round s t (on_bucket b n left) x.is_in m).note in
       omega (arith, at, x.is_in.rest.0, k.rounds, length_rounds w role)
+
+  -- where it turns an object, the frame is of that round, and the run is in front of its hand
+  pub turned_in : (acts : List Act) (s t : Stand) (run f i : ℕ) → stand_after w start acts ≡ Some s → after_act w s (on_pool (Turn run f) i) ≡ Some t
+      → (round_of f w.layout.round ≡ length s.hands) × (front_is run s.hand ≡ true)
+  turned_in acts s t run f i e m =
+      let x = where_at acts s e in
+      let k = kept_all w 0 (length (work_of w role)) start (record { got = refl; left = refl; nodes = refl; freed = refl; rounds = omega arith }) acts s e in
+      let z = turn_of w x.round s.stage s t run f i x.is_in.stage (one_step w 0 s t (on_pool (Turn run f) i) m) in
+      let here : x.round ≡ length s.hands = omega (arith, x.is_in.rest.0, k.rounds, length_rounds w role) in
+      (z.0 ∙ here, z.1)

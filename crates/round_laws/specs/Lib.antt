@@ -3,3 +3,4 @@ pub mod Cuts
 pub mod Rising
 pub mod Between
 pub mod Later
+pub mod Leaving

@@ -7,6 +7,7 @@ ghost use Rattle.role_steps.specs.declared.roles.Shared.{Shared};
 ghost use Rattle.round_laws.specs.Between.{Between};
 ghost use Rattle.round_laws.specs.Cuts.{IsInRounds};
 ghost use Rattle.round_laws.specs.Later.{ArePutLater};
+ghost use Rattle.round_laws.specs.Leaving.{AreNamedSoon};
 ghost use Rattle.round_laws.specs.Playing.{AllPlayed, AreHandedOn, MayPlay};
 ghost use Rattle.round_laws.specs.Rising.{WentByRounds};
 ghost use Rattle.run_laws.specs.Setting.{IsLayout, IsSetup};
@@ -43,4 +44,10 @@ pub fn runs_go_by_rounds()
 /// the end role itself.
 pub fn runs_leave_before()
     ensures { (w : Setup) (t : Histories) (l : AreScripted w t) → IsSetup w → (i : IsInRounds w t l.acts) → ArePutLater w t l i }
+{}
+
+/// A run that left its bucket in a round is named by an entry of the pool soon: a worker turned its object in that round, the recycler put it back in
+/// the next one, or the end role did after the last. What a worker turns had gone in the round of the packet for which it is turned.
+pub fn runs_are_named_soon()
+    ensures { (w : Setup) (t : Histories) (l : AreScripted w t) → IsSetup w → (i : IsInRounds w t l.acts) → AreNamedSoon w t l i }
 {}

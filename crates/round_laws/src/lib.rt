@@ -3,4 +3,7 @@
 
 mod laws;
 
-pub use laws::{roles_may_play, rounds_begin, rounds_go_on, runs_go_by_rounds, runs_leave_before};
+pub use laws::{
+    roles_may_play, rounds_begin, rounds_go_on, runs_are_named_soon, runs_go_by_rounds,
+    runs_leave_before,
+};

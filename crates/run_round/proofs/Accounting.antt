@@ -14,6 +14,7 @@ use Rattle.record_laws.proofs.Gathering.{whole}
 use Rattle.record_laws.specs.Telling.{HaveTold, told_below}
 use Rattle.role_steps.specs.Items.{IsLine, LinesOf}
 use Rattle.round_laws.proofs.Later.{put_later}
+use Rattle.round_laws.proofs.Naming.{named_soon}
 use Rattle.round_laws.proofs.Rising.{went_by_rounds}
 use Rattle.run_laws.proofs.Drained.{drained}
 use Rattle.run_laws.proofs.Ending.{has_cause}
@@ -114,6 +115,7 @@ accounted w t lines sorted d laid e p rising =
       lawful = record { layout = laid; histories = e.lawful };
       rounds = by_rounds;
       later = put_later w d (histories_of t) e.lawful.scripted by_rounds.in_rounds;
+      soon = named_soon w d (histories_of t) e.lawful.scripted by_rounds.in_rounds;
       stays = λ b h. looks_meet_none w (histories_of t) e.lawful.scripted d by_rounds b h;
       records = records_of_run w (histories_of t) lines sorted d e p rising;
       accounts = accounts_over w (histories_of t) d e.lawful;

@@ -6,6 +6,7 @@ use Rattle.bucket_laws.specs.Places.{At, History, In}
 use Rattle.bucket_rules.specs.Row.{has, made, row}
 use Rattle.flow_object.specs.declared.outcome.FlowLine.{FlowLine}
 use Rattle.round_laws.specs.Later.{ArePutLater}
+use Rattle.round_laws.specs.Leaving.{AreNamedSoon}
 use Rattle.round_laws.specs.Rising.{WentByRounds}
 use Rattle.run_laws.specs.Causes.{IsRefusedFor}
 use Rattle.run_laws.specs.Ends.{HasCause}
@@ -73,6 +74,8 @@ pub record AccountsFor (w : Setup) (t : Trailed) (lines : List FlowLine) : Type 
   pub rounds : WentByRounds w (histories_of t) lawful.histories.scripted
   -- what the recycler and the end role give back had left in an earlier round, or the end role drained it
   pub later : ArePutLater w (histories_of t) lawful.histories.scripted rounds.in_rounds
+  -- each run that left is named again in the pool's history, in the round in which it left or in the next one, or by the end role where there is none
+  pub soon : AreNamedSoon w (histories_of t) lawful.histories.scripted rounds.in_rounds
   -- no run that had expired at the clock of a round stays linked: each look of the next round comes after the round's sweep, and meets none
   pub stays : (b : ℕ) → b < length (histories_of t).buckets → LooksMeetNoneExpired (fixed_at w b) (bucket_at b (histories_of t).buckets)
   pub records : AreRecords w (histories_of t) lines
