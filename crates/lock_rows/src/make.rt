@@ -1,5 +1,5 @@
 //! Locks are made, and their passes dealt out to the roles.
-ghost use Rattle.std.specs.Prelude.{◌≡◌, ℕ, ◌<◌, ◌≤◌, ◌+◌, [], ◌∷◌, ◌++◌, All, length, map, IfOk, OnOk, slice_index_or, vec_len, vec_capacity};
+ghost use Rattle.std.specs.Prelude.{◌≡◌, ℕ, ◌<◌, ◌≤◌, ◌+◌, [], ◌∷◌, ◌++◌, All, length, map, IfOk, OnErr, OnOk, slice_index_or, vec_len, vec_capacity};
 ghost use Rattle.hist_lock.specs.Locks.{made_with, roles_of, numbers, role_of, IsNewPass};
 ghost use Rattle.lock_rows.specs.Rows.{IsGood, IsFresh, AreNewRows};
 
@@ -69,6 +69,7 @@ pub fn add_lock<M: Machine + Drop>(
     ensures room { vec_capacity locks.new ≡ vec_capacity locks.old }
     ensures rooms { OnOk result ((k : ℕ) (d : _) → k < roles
         → vec_capacity (slice_index_or rows.new.items k d) ≡ vec_capacity (slice_index_or rows.old.items k d)) }
+    ensures same { OnErr result ((locks.new ≡ locks.old) × (rows.new ≡ rows.old)) }
 {
     let (lock, passes) = HistLock::new(alloc, machine, roles)?;
     deal(&lock, passes, rows);
