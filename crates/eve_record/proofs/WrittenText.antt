@@ -1,5 +1,5 @@
 -- The text of a value that was written.
-use Rattle.std.proofs.Common.{◌≡◌, ℕ, List, [], ◌∷◌, ◌++◌, Some, None, refl, sym, ap, ◌∙◌, subst, append_assoc}
+use Rattle.std.proofs.Common.{◌≡◌, ℕ, List, [], ◌∷◌, ◌++◌, Some, None, ap, ◌∙◌, subst, append_assoc}
 use Rattle.std.specs.declared.option.Option.{Option}
 use Rattle.json.specs.Print.{print}
 use Rattle.json.specs.Token as token

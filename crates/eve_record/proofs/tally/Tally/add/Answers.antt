@@ -1,6 +1,4 @@
-use Rattle.std.proofs.Common.{◌≡◌, ◌∙◌, ◌+◌, ◌++◌, ap, sym}
-use Rattle.std.specs.Prelude.{min}
-use Rattle.eve_record.specs.SummaryLine.{line_feeds, lines_in}
+use Rattle.eve_record.specs.SummaryLine.{line_feeds}
 use Rattle.eve_record.proofs.Tallying.{feeds_append, still}
 use Rattle.eve_record.proofs.tally.Tally.add.Goals as goal
 
