@@ -58,8 +58,11 @@ app_11 = with_rule app_10 (flag_rule (codes "netflow"))
 abbrev pub app_12 : App
 app_12 = with_rule app_11 (number_rule (codes "generate") 0 18446744073709551615)
 
+abbrev pub app_13 : App
+app_13 = with_rule app_12 (number_rule (codes "frames") 1 1000000)
+
 abbrev pub suri_app : App
-suri_app = with_rule app_12 (number_rule (codes "frames") 1 1000000)
+suri_app = with_rule app_13 (flag_rule (codes "audit"))
 
 -- the kinds of fault that the command finds in the words; none where it takes them
 abbrev pub faults : List Text → Kinds
@@ -104,14 +107,23 @@ is_given id rows = is_some (first_of id rows)
 abbrev pub ArePaired : List Row → Type 0
 ArePaired rows = is_given (codes "generate") rows ≡ is_given (codes "frames") rows
 
--- the seed of a generated capture and its number of frames, where both are given
-abbrev pub generates : List Row → ℕ → ℕ → Option (ℕ × ℕ)
-generates rows seed frames = if is_given (codes "generate") rows && is_given (codes "frames") rows then Some (seed, frames) else None
-
 -- a flag is set
 abbrev pub is_set : Option Text → Bool
 is_set None = false
 is_set (Some t) = bytes_eq t (codes "true")
+
+-- a seed is given and an audit is asked for: not both. What is found of a flag is there where no word gives it too, so its text tells.
+abbrev pub AreApart : List Row → Type 0
+AreApart rows = (is_given (codes "generate") rows && is_set (first_of (codes "audit") rows)) ≡ false
+
+-- what is given goes together
+pub record GoTogether (rows : List Row) : Type 0 where
+  pub paired : ArePaired rows
+  pub apart : AreApart rows
+
+-- the seed of a generated capture and its number of frames, where both are given
+abbrev pub generates : List Row → ℕ → ℕ → Option (ℕ × ℕ)
+generates rows seed frames = if is_given (codes "generate") rows && is_given (codes "frames") rows then Some (seed, frames) else None
 
 -- the sizes that are chosen by what was found: bounds and default of each
 pub record AreSizes (rows : List Row) (l : Layout) : Type 0 where
@@ -130,7 +142,7 @@ pub record AreChoices (rows : List Row) (o : Options) : Type 0 where
   pub prealloc : (n : ℕ) × IsChoice 0 1048576 1000 (given (codes "prealloc") rows) n × (o.prealloc ≡ min n o.layout.memcap)
   pub seed : IsChoice 0 65535 0 (given (codes "seed") rows) o.seed
   pub netflow : o.netflow ≡ is_set (first_of (codes "netflow") rows)
-  pub audit : o.audit ≡ false
+  pub audit : o.audit ≡ is_set (first_of (codes "audit") rows)
   pub generate : (seed frames : ℕ) × IsWideChoice (given (codes "generate") rows) seed × IsChoice 1 1000000 1 (given (codes "frames") rows) frames
       × (o.generate ≡ generates rows seed frames)
 

@@ -78,5 +78,6 @@ pub fn command<'a>(alloc: Global) -> Result<Command<'a>, AllocError>
 {
     let command = options_of_runs(alloc)?;
     let command = with(command, wide_number(alloc, "generate"))?;
-    with(command, number(alloc, "frames", 1, 1_000_000))
+    let command = with(command, number(alloc, "frames", 1, 1_000_000))?;
+    with(command, flag(alloc, "audit"))
 }

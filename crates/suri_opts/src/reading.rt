@@ -19,10 +19,12 @@ ghost use Rattle.std.specs.Prelude.{
   ℕ,
 };
 ghost use Rattle.suri_opts.specs.Words.{
+  AreApart,
   AreChoices,
   ArePaired,
   AreSizes,
   Chooses,
+  GoTogether,
   IsChoice,
   IsNumberIn,
   IsNumberOf,
@@ -165,6 +167,20 @@ fn are_paired(matches: &ArgMatches<'_>) -> bool
     is_given(matches, "generate") == is_given(matches, "frames")
 }
 
+// Whether a capture is generated and its audit asked for: not both.
+fn are_apart(matches: &ArgMatches<'_>) -> bool
+    ensures { Decides result (AreApart (rows_of (found_of matches.now))) }
+{
+    !(is_given(matches, "generate") && flag_given(matches, "audit"))
+}
+
+// Whether what is given goes together.
+fn go_together(matches: &ArgMatches<'_>) -> bool
+    ensures { Decides result (GoTogether (rows_of (found_of matches.now))) }
+{
+    are_paired(matches) && are_apart(matches)
+}
+
 // How the run is to be laid out.
 fn sizes(matches: &ArgMatches<'_>) -> Layout
     ensures { AreSizes (rows_of (found_of matches.now)) result }
@@ -193,7 +209,7 @@ fn chosen(matches: &ArgMatches<'_>) -> Options
         prealloc: prealloc.min(layout.memcap),
         seed: seed as u16,
         netflow: flag_given(matches, "netflow"),
-        audit: false,
+        audit: flag_given(matches, "audit"),
         generate: generated(matches),
     }
 }
@@ -209,17 +225,17 @@ fn word_fault(error: &Error) -> WordFault
     }
 }
 
-// Reads the words, whether or not the choices fit together. It tells with them whether both options of a generated
-// capture were given or neither.
+// Reads the words, whether or not the choices fit together. It tells with them whether the options that were given go
+// together.
 fn read(alloc: Global, words: &[String]) -> Result<(Options, bool), WordFault>
     ensures refused { result ≡ Err WordFault.Refused → faults (map string_bytes words.now) ≢ [] }
     ensures chosen { IfOk result (λ r. Chooses (map string_bytes words.now) r.0) }
-    ensures paired { IfOk result (λ r. Decides r.1 (ArePaired (found (map string_bytes words.now)))) }
+    ensures together { IfOk result (λ r. Decides r.1 (GoTogether (found (map string_bytes words.now)))) }
     ensures kind { IfErr result (λ e. (e ≡ WordFault.Refused) ⊎ (e ≡ WordFault.NoMemory)) }
 {
     let suri = command(alloc)?;
     match suri.try_get_matches_from(words) {
-        Ok(matches) => Ok((chosen(&matches), are_paired(&matches))),
+        Ok(matches) => Ok((chosen(&matches), go_together(&matches))),
         Err(error) => Err(word_fault(&error)),
     }
 }
@@ -232,23 +248,25 @@ fn read(alloc: Global, words: &[String]) -> Result<(Options, bool), WordFault>
 /// # Errors
 ///
 /// `Refused` where clap refuses the words, a word that asks for help among them; else `Rows` where the rows exceed
-/// `memcap`, defaults included; else `Pair` where one of `--generate` and `--frames` stands without the other.
+/// `memcap`, defaults included; else `Pair` where one of `--generate` and `--frames` stands without the other, or
+/// `--generate` stands with `--audit`.
 /// `NoMemory` where there is none to read the words.
 pub fn options(alloc: Global, words: &[String]) -> Result<Options, WordFault>
     // Words are refused where the command finds a fault in them.
     ensures refused { result ≡ Err WordFault.Refused → faults (map string_bytes words.now) ≢ [] }
-    // They are taken where it finds none, the rows are at most the flows, and a generated capture has its seed and its number of frames.
+    // They are taken where it finds none, the rows are at most the flows, and a generated capture has its seed and its number of frames and no audit.
     ensures chosen { IfOk result (λ o. Chooses (map string_bytes words.now) o × (o.layout.rows ≤ o.layout.memcap)
-        × ArePaired (found (map string_bytes words.now))) }
+        × GoTogether (found (map string_bytes words.now))) }
     // Where it finds none and the rows exceed the flows, both numbers are told.
     ensures rows { (rows memcap : ℕ) → result ≡ Err (WordFault.Rows rows memcap)
         → (o : Options) × Chooses (map string_bytes words.now) o
         × (o.layout.rows ≡ rows) × (o.layout.memcap ≡ memcap) × (memcap < rows) }
-    // Where neither is so, and one of the two numbers of a generated capture stands without the other, they are refused too.
+    // Where neither is so, and one of the two numbers of a generated capture stands without the other or the audit with its seed, they are
+    // refused too.
     ensures pair { result ≡ Err WordFault.Pair
-        → (o : Options) × Chooses (map string_bytes words.now) o × (o.layout.rows ≤ o.layout.memcap) × ¬ ArePaired (found (map string_bytes words.now)) }
+        → (o : Options) × Chooses (map string_bytes words.now) o × (o.layout.rows ≤ o.layout.memcap) × ¬ GoTogether (found (map string_bytes words.now)) }
 {
-    let (options, paired) = read(alloc, words)?;
+    let (options, together) = read(alloc, words)?;
     let layout = options.layout;
     if layout.rows > layout.memcap {
         return Err(WordFault::Rows {
@@ -256,7 +274,7 @@ pub fn options(alloc: Global, words: &[String]) -> Result<Options, WordFault>
             memcap: layout.memcap,
         });
     }
-    if !paired {
+    if !together {
         return Err(WordFault::Pair);
     }
     Ok(options)

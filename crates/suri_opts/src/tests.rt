@@ -47,14 +47,15 @@ fn with(name: &str, value: u32) -> Options {
         "depth" => options.layout.depth = value,
         "prealloc" => options.prealloc = value,
         "seed" => options.seed = value.min(65_535) as u16,
-        _ => options.netflow = true,
+        "netflow" => options.netflow = true,
+        _ => options.audit = true,
     }
     options
 }
 
 #[test]
 fn takes_each_option_at_its_bounds(rt: HostRuntime) -> Result<(), Fail> {
-    let table: [(&[&str], Options); 27] = [
+    let table: [(&[&str], Options); 28] = [
         (&[], DEFAULTS),
         (&["--workers", "1"], with("workers", 1)),
         (&["--workers=64"], with("workers", 64)),
@@ -78,6 +79,7 @@ fn takes_each_option_at_its_bounds(rt: HostRuntime) -> Result<(), Fail> {
         (&["--prealloc=65536"], with("prealloc", 65_536)),
         (&["--prealloc=1048576"], with("prealloc", 65_536)),
         (&["--netflow"], with("netflow", 1)),
+        (&["--audit"], with("audit", 1)),
         (&["--"], DEFAULTS),
         (&["--workers", "+5"], with("workers", 5)),
         (&["--workers=007"], with("workers", 7)),
@@ -93,6 +95,7 @@ fn takes_each_option_at_its_bounds(rt: HostRuntime) -> Result<(), Fail> {
 fn takes_all_options_at_once(rt: HostRuntime) -> Result<(), Fail> {
     let words = [
         "--netflow",
+        "--audit",
         "--seed",
         "2",
         "--recovery",
@@ -128,7 +131,7 @@ fn takes_all_options_at_once(rt: HostRuntime) -> Result<(), Fail> {
         prealloc: 77,
         seed: 2,
         netflow: true,
-        audit: false,
+        audit: true,
         generate: None,
     };
     assert_eq!(rt; chosen(rt.alloc(), &words)?, Ok(want));
@@ -137,7 +140,7 @@ fn takes_all_options_at_once(rt: HostRuntime) -> Result<(), Fail> {
 
 #[test]
 fn refuses_what_is_no_command_line(rt: HostRuntime) -> Result<(), Fail> {
-    let table: [&[&str]; 53] = [
+    let table: [&[&str]; 55] = [
         &["--workers=0"],
         &["--workers", "65"],
         &["--batch=0"],
@@ -175,7 +178,9 @@ fn refuses_what_is_no_command_line(rt: HostRuntime) -> Result<(), Fail> {
         &["--net"],
         &["-n"],
         &["--Workers=1"],
-        &["--audit"],
+        &["--audit", "--audit"],
+        &["--audit=true"],
+        &["--generate=7", "--audit", "--rows=0"],
         &["--generate=-1", "--frames=3"],
         &["--generate=18446744073709551616", "--frames=3"],
         &["--generate=7", "--frames=0"],
@@ -218,11 +223,15 @@ fn takes_a_seed_and_a_number_of_frames(rt: HostRuntime) -> Result<(), Fail> {
 }
 
 #[test]
-fn tells_one_of_the_two_that_stands_alone(rt: HostRuntime) -> Result<(), Fail> {
-    let table: [&[&str]; 3] = [
+fn tells_options_that_do_not_go_together(rt: HostRuntime) -> Result<(), Fail> {
+    let table: [&[&str]; 7] = [
         &["--frames", "3"],
         &["--generate", "7"],
         &["--generate=0", "--netflow"],
+        &["--generate", "7", "--frames", "5", "--audit"],
+        &["--audit", "--frames=5", "--netflow", "--generate=7"],
+        &["--generate=7", "--audit"],
+        &["--frames=3", "--audit"],
     ];
     for words in &table {
         assert_eq!(rt; chosen(rt.alloc(), words)?, Err(WordFault::Pair));
@@ -232,9 +241,20 @@ fn tells_one_of_the_two_that_stands_alone(rt: HostRuntime) -> Result<(), Fail> {
 
 #[test]
 fn tells_rows_that_exceed_the_flows(rt: HostRuntime) -> Result<(), Fail> {
-    let table: [(&[&str], u32, u32); 5] = [
+    let table: [(&[&str], u32, u32); 6] = [
         (&["--rows", "10", "--memcap", "5"], 10, 5),
         (&["--rows=10", "--memcap=5", "--frames=3"], 10, 5),
+        (
+            &[
+                "--generate=7",
+                "--frames=5",
+                "--audit",
+                "--rows=10",
+                "--memcap=5",
+            ],
+            10,
+            5,
+        ),
         (&["--memcap", "5"], 1_024, 5),
         (&["--memcap=1023"], 1_024, 1_023),
         (

@@ -15,7 +15,7 @@ pub struct Options {
     pub seed: u16,
     /// Whether netflow lines are written.
     pub netflow: bool,
-    /// Whether the histories of the run are written. No word asks for them yet.
+    /// Whether the audit is written: what the machines of the run went through.
     pub audit: bool,
     /// The seed of a generated capture and its number of frames, where one is asked for.
     pub generate: Option<(u64, u32)>,
@@ -28,7 +28,8 @@ pub enum WordFault {
     Refused,
     /// There are more buckets than flows may be.
     Rows { rows: u32, memcap: u32 },
-    /// The seed of a generated capture stands without its number of frames, or the number without the seed.
+    /// The seed of a generated capture stands without its number of frames, or the number without the seed, or the
+    /// seed with a wish for the audit.
     Pair,
     /// There was no memory to read them.
     NoMemory,

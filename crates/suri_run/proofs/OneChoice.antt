@@ -70,7 +70,7 @@ not_more words table_rows memcap taken more =
 pub not_taken : (words : List Text) → AreTaken words → AreRefused words → ⊥
 not_taken words taken (inl fault) = fault taken.1.chosen.taken
 not_taken words taken (inr (inl more)) = not_more words more.0 more.1 taken more.2
-not_taken words taken (inr (inr alone)) = alone.alone taken.1.paired
+not_taken words taken (inr (inr apart)) = apart.apart taken.1.together
 
 -- where words ask for a generated capture, what they choose has one
 pub asked : (words : List Text) (o : Options) → Chooses words o → AskForOne words → IsSome o.generate

@@ -1,6 +1,7 @@
 -- The text of a run that never was short of an object or of a node is that of the plain runs of its capture. These have one text for each seed, each
--- depth and each choice of netflow lines; so two such runs over one capture have the same.
+-- depth and each choice of netflow lines; so two such runs over one capture have the same, but for the audits behind it.
 use Rattle.std.proofs.Common.{◌≡◌, ◌≤◌, ℕ, Bool, List, ◌++◌, length, Ok, Option, Some, sym, refl, ap, ◌∙◌, subst}
+use Rattle.std.specs.Io.KnownBytes.{Appends}
 use Rattle.capture_index.specs.Index.{captured_of}
 use Rattle.clap.specs.Words.{Text}
 use Rattle.eve_record.specs.StatsLine.{stats_line}
@@ -21,8 +22,8 @@ use Rattle.suri_base.specs.Capture.{packets_in}
 use Rattle.suri_base.specs.Trail.{Trailed}
 use Rattle.suri_opts.specs.declared.types.Options.{Options}
 use Rattle.suri_run.proofs.Outputs.{file_or}
-use Rattle.suri_run.specs.Quiet.{IsPlainReport, TookPlainReport}
-use Rattle.suri_run.specs.Report.{IsAccount, setup_in, text_of, written_for}
+use Rattle.suri_run.specs.Quiet.{AreAlike, IsPlainReport, TookPlainReport}
+use Rattle.suri_run.specs.Report.{IsAccount, audit_of, output_of, setup_in, text_of, written_for}
 use Rattle.suri_run.specs.Run.{IsHeadline, IsReport}
 
 -- an account of the bytes by a quiet trail has the text of the plain runs
@@ -82,13 +83,13 @@ quiet_counts_alike o p bytes trail another lines others stats counts a b q r dep
     (subst (λ (n : ℕ). IsPlainReport o.seed n o.netflow bytes (text_of o lines stats)) depth (quiet_report o bytes trail lines stats a q))
     (quiet_report p bytes another others counts b r)
 
--- a run with the status 0 whose trail is quiet wrote the text of the plain runs, or its summary
+-- a run with the status 0 whose trail is quiet wrote the text of the plain runs and then its audit, or the summary of the text
 abbrev trail_in : Trailed → Option Trailed → Trailed
 trail_in other (Some t) = t
 trail_in other _ = other
 
 pub took_plainly : (told : Option Trailed) (words : List Text) (left taken now : Option (List ℕ)) (trail : Trailed) → IsHeadline told words left taken now → told ≡ Some trail
-    → IsQuiet (histories_of trail) → TookPlainReport words left taken now
+    → IsQuiet (histories_of trail) → TookPlainReport trail words left taken now
 unfolding quiet_report
 took_plainly told words left taken now trail h is q =
     let same : trail ≡ h.run_trail = ap (trail_in trail) (sym is ∙ h.told) in
@@ -99,19 +100,24 @@ took_plainly told words left taken now trail h is q =
       from = h.from;
       text = text_of h.options h.lines h.stats;
       report = quiet_report h.options h.bytes h.run_trail h.lines h.stats h.account (subst (λ (t : Trailed). IsQuiet (histories_of t)) same q);
-      took = h.text;
+      took = subst (λ (t : Trailed). Appends taken now (output_of h.options h.lines h.stats t)) (sym same) h.text;
     }
 
--- and two such runs over one capture write the same, where seed, depth, netflow lines and the choice of a generated capture are alike
+-- and two such runs over one capture write the same but for their audits, where seed, depth, netflow lines and the choice of a generated capture are
+-- alike
 pub quiet_outputs_alike : (o p : Options) (bytes text other : List ℕ) (trail another : Trailed) → IsReport o bytes trail text → IsReport p bytes another other → IsQuiet (histories_of trail)
-    → IsQuiet (histories_of another) → o.seed ≡ p.seed → o.layout.depth ≡ p.layout.depth → o.netflow ≡ p.netflow → o.generate ≡ p.generate → text ≡ other
+    → IsQuiet (histories_of another) → o.seed ≡ p.seed → o.layout.depth ≡ p.layout.depth → o.netflow ≡ p.netflow → o.generate ≡ p.generate → AreAlike o p trail another text other
 quiet_outputs_alike o p bytes text other trail another a b q r seed depth netflow generate =
     let texts = quiet_texts_alike o p bytes trail another a.lines b.lines a.stats b.stats a.account b.account q r seed depth netflow in
     let counts = quiet_counts_alike o p bytes trail another a.lines b.lines a.stats b.stats a.account b.account q r depth in
-    a.is_text
-    ∙ (ap (λ (g : Option (ℕ × ℕ)). written_for g a.stats (text_of o a.lines a.stats)) generate
-    ∙ (ap (λ (s : Stats). written_for p.generate s (text_of o a.lines a.stats)) counts
-    ∙ (ap (λ (t : List ℕ). written_for p.generate b.stats t) texts ∙ sym b.is_text)))
+    let same : written_for o.generate a.stats (text_of o a.lines a.stats) ≡ written_for p.generate b.stats (text_of p b.lines b.stats) =
+    ap (λ (g : Option (ℕ × ℕ)). written_for g a.stats (text_of o a.lines a.stats)) generate
+    ∙ (ap (λ (s : Stats). written_for p.generate s (text_of o a.lines a.stats)) counts ∙ ap (λ (t : List ℕ). written_for p.generate b.stats t) texts) in
+    record {
+      common = written_for p.generate b.stats (text_of p b.lines b.stats);
+      first = a.is_text ∙ ap (λ (t : List ℕ). t ++ audit_of o trail) same;
+      second = b.is_text;
+    }
 
 -- the trail is quiet where the limits are at least what the capture could ask for
 pub wide_is_quiet : (o : Options) (bytes text : List ℕ) (file : CaptureFile) (trail : Trailed) → IsReport o bytes trail text → Reads bytes (Ok file)

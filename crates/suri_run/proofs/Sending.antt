@@ -1,5 +1,5 @@
 -- Texts that are sent one after another.
-use Rattle.std.proofs.Common.{◌≡◌, ℕ, suc, ◌+◌, ◌<◌, List, ◌++◌, length, drop, get_or, flat_map, sym, ap, ◌∙◌, subst, append_assoc, drop-cons, add-one, Result, Ok, Err, OnErr, All}
+use Rattle.std.proofs.Common.{◌≡◌, ℕ, suc, ◌+◌, ◌<◌, List, ◌++◌, length, drop, get_or, flat_map, sym, ap, ◌∙◌, subst, append_assoc, drop-cons, add-one, All}
 use Rattle.std.specs.declared.option.Option.{Option}
 use Rattle.std.proofs.Math.Seq.{drop-append_seam}
 use Rattle.std.proofs.lemmas.Grind.{flat_map-append}
@@ -32,8 +32,3 @@ pub front_of_all : (a b c : Option (List ℕ)) (waiting text piece behind left a
 front_of_all a b c waiting text piece behind left all sent parts whole front =
     subst (TakesFront a c) (next_text text piece behind left all parts whole)
     (front_of_more a c (text ++ piece) behind (sent_front_of_more a b c waiting text piece sent front))
-
--- what follows on an error holds on an error
-pub on_err : {T E : Type 0} (r : Result T E) (P Q : Type 0) → (P → Q) → OnErr r P → OnErr r Q
-on_err (Ok v) P Q follows h = h
-on_err (Err e) P Q follows h = follows h

@@ -1,5 +1,5 @@
 -- What is reported of a capture: the flow records of a run of the engine over it, and the counts of the stats line.
-use Rattle.std.specs.Prelude.{◌≡◌, ℕ, ◌+◌, ◌*◌, ◌<◌, ◌≤◌, List, ◌++◌, Ok, Option, Some, None}
+use Rattle.std.specs.Prelude.{◌≡◌, ℕ, ◌+◌, ◌*◌, ◌<◌, ◌≤◌, Bool, true, false, List, [], ◌++◌, Ok, Option, Some, None}
 use Rattle.suri_base.specs.Trail.{Trailed}
 use Rattle.pcap_read.specs.File.{CaptureFile, Reads}
 use Rattle.flow_object.specs.declared.outcome.FlowLine.{FlowLine}
@@ -13,6 +13,7 @@ use Rattle.eve_record.specs.StatsLine.{stats_line}
 use Rattle.eve_record.specs.SummaryLine.{summary_of}
 use Rattle.record_texts.specs.Lines.{lines_of}
 use Rattle.suri_opts.specs.declared.types.Options.{Options}
+use Rattle.trail_text.specs.Lines.{text_of_trail}
 
 -- the capture of these bytes, which hold this file, laid out by the options
 abbrev pub setup_in : Options → List ℕ → CaptureFile → Setup
@@ -43,10 +44,20 @@ pub record AreMany (o : Options) (bytes : List ℕ) (count table_rows : ℕ) : T
 abbrev pub text_of : Options → List FlowLine → Stats → List ℕ
 text_of o lines stats = lines_of o.seed o.netflow lines ++ stats_line stats
 
--- what is written: the text, or, where a capture was generated from this seed and so many frames, the summary of the text
+-- where a capture was generated from this seed and so many frames, the summary stands in place of the text
 abbrev pub written_for : Option (ℕ × ℕ) → Stats → List ℕ → List ℕ
 written_for None stats text = text
 written_for (Some g) stats text = summary_of stats g.0 g.1 text
 
-abbrev pub output_of : Options → List FlowLine → Stats → List ℕ
-output_of o lines stats = written_for o.generate stats (text_of o lines stats)
+-- behind the text stands the trail, where an audit is asked for; behind a summary nothing
+abbrev pub audit_behind : Option (ℕ × ℕ) → Bool → Trailed → List ℕ
+audit_behind None true trail = text_of_trail trail
+audit_behind None false trail = []
+audit_behind (Some g) audit trail = []
+
+abbrev pub audit_of : Options → Trailed → List ℕ
+audit_of o trail = audit_behind o.generate o.audit trail
+
+-- what is written: the text or the summary of it, and then the audit
+abbrev pub output_of : Options → List FlowLine → Stats → Trailed → List ℕ
+output_of o lines stats trail = written_for o.generate stats (text_of o lines stats) ++ audit_of o trail

@@ -1,5 +1,6 @@
 //! Reads a capture from standard input, or makes one from a number, runs the engine over it, and writes its flow lines, netflow
-//! lines where they are asked for, and its stats line to standard output; of a capture that it made, one summary line.
+//! lines where they are asked for, its stats line and, where an audit is asked for, its trail to standard output; of a capture that it
+//! made, one summary line.
 #![tactic(auto)]
 
 mod capture;
@@ -9,6 +10,8 @@ mod ran;
 mod report;
 mod serve;
 mod summing;
+#[cfg(test)]
+mod test_audit;
 #[cfg(test)]
 mod test_frames;
 #[cfg(test)]

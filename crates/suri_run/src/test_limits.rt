@@ -118,7 +118,7 @@ fn one_frame_too_many_is_above_the_limit(rt: HostRuntime) -> Result<(), Fail> {
 }
 
 // A capture of 600 packets a microsecond apart, each from a port of its own.
-fn many_flows(alloc: Global) -> Result<Vec<u8>, Fail> {
+pub(crate) fn many_flows(alloc: Global) -> Result<Vec<u8>, Fail> {
     let mut capture = HEADER.to_vec(alloc)?;
     for port in 0..600u16 {
         let mut frame = A_TO_B;

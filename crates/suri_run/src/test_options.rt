@@ -94,7 +94,7 @@ fn refused_words_have_their_notes(rt: HostRuntime) -> Result<(), Fail> {
         (&["--workers", "0"], 0, refused),
         (&["--frames", "3"], 0, alone),
         (&["--generate", "7"], 0, alone),
-        (&["--audit"], 0, refused),
+        (&["--audit", "--audit"], 0, refused),
         (&["--netflow", "--netflow"], 0, refused),
         (&["x"], 0, refused),
         (&["x"], 2, "suri_ru"),

@@ -1,6 +1,6 @@
 use Rattle.std.proofs.Common.{◌≡◌, ◌∙◌, Decides, ap, subst, sym, map, string_bytes, List, [], inl, inr}
 use Rattle.clap.specs.Words.{App, IsAmong, Kinds, Row, app_of, fault_of, is_simple, is_simple_and_free, kind_of, matches_of}
-use Rattle.suri_opts.specs.Words.{AreChoices, ArePaired}
+use Rattle.suri_opts.specs.Words.{AreChoices, GoTogether}
 use Rattle.suri_opts.specs.declared.types.WordFault.TheVariants.{Refused}
 use Rattle.suri_opts.proofs.Given.{suri_is_free, suri_is_simple}
 use Rattle.suri_opts.proofs.reading.read.Goals as goal
@@ -15,11 +15,11 @@ returns-in-Ok-clause-chosen c =
       choices = subst (λ (rs : List Row). AreChoices rs c.chosen.result) (rows ∙ ap (λ (a : App). matches_of a words) app) c.chosen.ensures;
     }
 
-pub returns-in-Ok-clause-paired : goal.returns-in-Ok-clause-paired
-returns-in-Ok-clause-paired c =
+pub returns-in-Ok-clause-together : goal.returns-in-Ok-clause-together
+returns-in-Ok-clause-together c =
     let app = c.in_ok-suri.ensures in
     let rows = (c.in-Ok.ensures.matches (ap is_simple app ∙ suri_is_simple)).0 in
-    subst (λ (rs : List Row). Decides c.are_paired.result (ArePaired rs)) (rows ∙ ap (λ (a : App). matches_of a (map string_bytes c.args.words.now)) app) c.are_paired.ensures
+    subst (λ (rs : List Row). Decides c.go_together.result (GoTogether rs)) (rows ∙ ap (λ (a : App). matches_of a (map string_bytes c.args.words.now)) app) c.go_together.ensures
 
 pub returns-in-Err-clause-refused : goal.returns-in-Err-clause-refused
 returns-in-Err-clause-refused c = λ refused none.

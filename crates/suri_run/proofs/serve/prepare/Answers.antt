@@ -13,7 +13,7 @@ pub returns-in_err-report-clause-refused : goal.returns-in_err-report-clause-ref
 returns-in_err-report-clause-refused g c =
     let p = err_from_is_err_and c.from_residual.result c.from_residual.ensures.1 in
     let words = map string_bytes c.args.words.now in
-    let takes : Takes words c.in-Ok.options = record { chosen = c.in-Ok.ensures.chosen.0; fit = c.in-Ok.ensures.chosen.1; paired = c.in-Ok.ensures.chosen.2 } in
+    let takes : Takes words c.in-Ok.options = record { chosen = c.in-Ok.ensures.chosen.0; fit = c.in-Ok.ensures.chosen.1; together = c.in-Ok.ensures.chosen.2 } in
     rw p.1
     (λ is.
     absurd (subst (λ (x : Cause). status_of (Err x) ≡ 2 → ⊥) (sym p.2)
@@ -21,3 +21,6 @@ returns-in_err-report-clause-refused g c =
 
 pub returns-clause-generated : goal.returns-clause-generated
 returns-clause-generated g c = λ asks. c.run_over.ensures.untouched (asked (map string_bytes c.args.words.now) c.in-Ok.options c.in-Ok.ensures.chosen.0 asks)
+
+pub returns-in_err-report-clause-generated : goal.returns-in_err-report-clause-generated
+returns-in_err-report-clause-generated g c = λ asks. c.run_over.ensures.untouched (asked (map string_bytes c.args.words.now) c.in-Ok.options c.in-Ok.ensures.chosen.0 asks)
