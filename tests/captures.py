@@ -192,8 +192,10 @@ def words(seed):
     found = [word for name, value in pairs for word in ([f"--{name}={value}"] if r.random() < 0.3 else [f"--{name}", value])]
     if r.random() < 0.3:
         found.append("--netflow")
+    if r.random() < 0.3:
+        found.append("--audit")
     if r.random() < 0.06:
-        found.insert(r.randrange(len(found) + 1), r.choice(["--netflow", "--netflow=true", "-d", "x", "--workers", "--dept", "", "--Seed", "--audit"]))
+        found.insert(r.randrange(len(found) + 1), r.choice(["--netflow", "--netflow=true", "-d", "x", "--workers", "--dept", "", "--Seed", "--audit", "--audit=true"]))
     return found
 
 

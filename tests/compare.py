@@ -1,21 +1,18 @@
 #!/usr/bin/env python3
 """Compares the program with the model (tests/model) on random captures, sound ones and broken ones, under random words:
-text, note and status must be the same. The model knows no limits on flows and segments, so a run in which one of them acted
-is not compared; tests/stress.sh adds up the counts of such runs.
+text, note and status must be the same. The model knows no limits on flows and segments, so the text of a run in which one of them
+acted isn't compared with its text. Where a trail was asked for, it must be lawful over the capture, and the lines those of its runs (tests/trail).
 
     tests/compare.py [COUNT [SEED]]
 """
 import collections
 import itertools
 import json
-import pathlib
-import subprocess
 import sys
 
 import captures
 import model
-
-PROGRAM = pathlib.Path(__file__).resolve().parent.parent / "bin" / "suri_run"
+from program import PROGRAM, faults_of_trail, knows_audit, run
 
 
 def wanted(data, words):
@@ -30,26 +27,32 @@ def has_limit_acted(text):
     return flow["memcap_full"] + flow["segment_full"] > 0
 
 
-# How the program's run differs from the model's: "same", "different", or "limited" where they can't be compared.
-def outcome(seed):
-    data, words = captures.capture(seed), captures.words(seed)
-    ran = subprocess.run([PROGRAM, *words], input=data, capture_output=True)
-    seen, due = (ran.returncode, ran.stdout.decode(), ran.stderr.decode()), wanted(data, words)
-    if seen == due:
-        return "same"
-    if seen[0] == due[0] == 0 and has_limit_acted(seen[1]):
-        return "limited"
-    print(f"seed {seed}, words {' '.join(words)}: status {seen[0]} and note {seen[2]!r}; the model's {due[0]} and {due[2]!r}")
-    for line, other in itertools.zip_longest(seen[1].splitlines(), due[1].splitlines(), fillvalue="no line"):
+def first_difference(text, due):
+    """The first line that differs, and the model's."""
+    for line, other in itertools.zip_longest(text.splitlines(), due.splitlines(), fillvalue="no line"):
         if line != other:
-            print(line, other, sep="\n")
-            break
+            return [line, other]
+    return []
+
+
+# How the program's run differs from the model's: "same", "different", or "limited" where they can't be compared.
+def outcome(seed, audited):
+    data, words = captures.capture(seed), [word for word in captures.words(seed) if audited or word != "--audit"]
+    ran = run(PROGRAM, words, input=data)
+    seen, due = (ran.status, ran.text.decode(), ran.note), wanted(data, words)
+    faults = list(faults_of_trail(ran, words, data)) if ran.status == due[0] == 0 and "--audit" in words else []
+    is_limited = seen[0] == due[0] == 0 and seen != due and has_limit_acted(seen[1])
+    if (seen == due or is_limited) and not faults:
+        return "limited" if is_limited else "same"
+    print(f"seed {seed}, words {' '.join(words)}: status {seen[0]} and note {seen[2]!r}; the model's {due[0]} and {due[2]!r}")
+    print(*([] if is_limited else first_difference(seen[1], due[1])), *faults, sep="\n")
     return "different"
 
 
 def main():
     count, first = (int(word) for word in (sys.argv[1:] + ["1000", "1"][len(sys.argv) - 1 :])[:2])
-    outcomes = collections.Counter(outcome(seed) for seed in range(first, first + count))
+    audited = knows_audit(PROGRAM)
+    outcomes = collections.Counter(outcome(seed, audited) for seed in range(first, first + count))
     print(f"in {outcomes['limited']} runs a limit acted")
     print(f"{outcomes['same']} passed, {outcomes['different']} failed")
     return outcomes["different"] != 0

@@ -1,6 +1,7 @@
 #!/usr/bin/env python3
 """Runs the program over captures under many options. In each run the status must be the one that capture and options give, and the counts must
-add up; all runs that met no limit must print the text of the model (tests/model), which knows no limits, whatever shares out their work.
+add up; all runs that met no limit must print the text of the model (tests/model), which knows no limits, whatever shares out their work; and the
+trail of each run whose trail isn't too long must be lawful, and, where that doesn't take too long, its lines those of its runs (tests/trail).
 
     tests/stress.py [--program PROGRAM] [--runs N] [--seed N] CAPTURE..
 """
@@ -14,6 +15,8 @@ import subprocess
 import sys
 
 import model
+from program import PROGRAM, Run, faults_of_trail, knows_audit
+from program import run as run_words
 
 # Options that share out the work or limit it, from the least value to the greatest that is tried.
 RANGES = {
@@ -25,10 +28,10 @@ TEXTS = [[], ["--netflow"], ["--netflow", "--seed", "7", "--depth", "5"]]
 # So many flows and segments that no capture here meets a limit.
 WIDE = ["--memcap", "1048576", "--segments", "1048576"]
 ROUNDS_AND_ROWS = 2**24
+# A trail is asked for up to so many entries of sweeps, and judged over the capture up to so many flows in all sweeps.
+AUDITED, REPLAYED = 100_000, 1_000_000
 REASONS = ["timeout", "tcp_reuse", "forced", "shutdown"]
 SECONDS = 600
-
-Run = collections.namedtuple("Run", "status text note")
 
 
 def drawn(r, least, most):
@@ -61,10 +64,9 @@ def words_of(chosen):
 def run(program, capture, words):
     try:
         with open(capture, "rb") as source:
-            ended = subprocess.run([program, *words], stdin=source, capture_output=True, timeout=SECONDS)
+            return run_words(program, words, stdin=source, timeout=SECONDS)
     except subprocess.TimeoutExpired:
         return Run(None, b"", f"no end after {SECONDS} s")
-    return Run(ended.returncode, ended.stdout, ended.stderr.decode(errors="replace"))
 
 
 class Lines:
@@ -171,8 +173,8 @@ def modelled(capture, words):
 class Text:
     """All runs over one capture with the same options of text."""
 
-    def __init__(self, program, capture, words):
-        self.program, self.capture, self.words = program, capture, words
+    def __init__(self, program, capture, words, audited):
+        self.program, self.capture, self.words, self.audited = program, capture, words, audited
         self.counts = collections.Counter()
         self.first = run(program, capture, words + WIDE)
         self.lines = lines_of(self.first)
@@ -188,24 +190,34 @@ class Text:
         if not self.lines.is_quiet():
             yield "a full pool far from the limits"
 
+    def rounds(self, chosen):
+        return -(-self.lines.stats["capture"]["frames"] // chosen["round"])
+
     def due(self, chosen):
         """The status that the first run and the options give, and the note."""
         if self.lines is None:
             return self.first.status, self.first.note
-        rounds = -(-self.lines.stats["capture"]["frames"] // chosen["round"])
-        if rounds * chosen["rows"] > ROUNDS_AND_ROWS:
-            return 6, f"suri_run: limit: {rounds} rounds of {chosen['rows']} rows\n"
+        if self.rounds(chosen) * chosen["rows"] > ROUNDS_AND_ROWS:
+            return 6, f"suri_run: limit: {self.rounds(chosen)} rounds of {chosen['rows']} rows\n"
         return 0, ""
+
+    def audit_words(self, chosen):
+        """The word that asks for a trail, where the program knows it and the trail isn't too long."""
+        is_short = self.lines is None or self.rounds(chosen) * chosen["rows"] <= AUDITED
+        return ["--audit"] if self.audited and is_short else []
 
     def faults(self, chosen):
         """What is wrong with one run."""
-        seen = run(self.program, self.capture, self.words + words_of(chosen))
+        audit = self.audit_words(chosen)
+        seen = run(self.program, self.capture, self.words + words_of(chosen) + audit)
         due = self.due(chosen)
         self.counts[f"status {due[0]}"] += 1
+        if audit and seen.status == due[0] == 0:
+            yield from self.faults_of_audit(seen, chosen)
         if (seen.status, seen.note) != due:
             yield f"status {seen.status} and note {seen.note!r} in place of {due[0]} and {due[1]!r}"
         elif due[0] != 0:
-            if seen.text:
+            if seen.text or seen.trail:
                 yield "a text beside a refusal"
         elif seen.text == self.first.text:
             self.counts["quiet"] += 1
@@ -217,6 +229,14 @@ class Text:
             if lines.is_quiet():
                 yield "another text without a full pool"
 
+    def faults_of_audit(self, seen, chosen):
+        """What is wrong with a trail, and, where that doesn't take long, with the lines before it."""
+        is_replayed = self.rounds(chosen) * self.lines.stats["flow"]["records"] <= REPLAYED
+        self.counts["audited"] += 1
+        self.counts["replayed"] += is_replayed
+        data = pathlib.Path(self.capture).read_bytes() if is_replayed else None
+        return faults_of_trail(seen, self.words + words_of(chosen), data)
+
     def count_limits(self, lines):
         for name in ("memcap_full", "segment_full", "no_flow", "forced", "emergency"):
             self.counts[name] += lines.stats["flow"][name] > 0
@@ -225,7 +245,8 @@ class Text:
 def stress(program, capture, runs, seed):
     """How many runs over one capture passed, and how many failed."""
     r = random.Random(f"{seed} {pathlib.Path(capture).name}")
-    texts = [Text(program, capture, words) for words in TEXTS]
+    audited = knows_audit(program)
+    texts = [Text(program, capture, words, audited) for words in TEXTS]
     bad = 0
     frames = texts[0].lines.stats["capture"]["frames"] if texts[0].lines else 0
     drawn_choices = [choices(r, frames) for _ in range(runs)]
@@ -243,7 +264,7 @@ def stress(program, capture, runs, seed):
 
 def main():
     parser = argparse.ArgumentParser(description=__doc__, formatter_class=argparse.RawDescriptionHelpFormatter)
-    parser.add_argument("--program", default=str(pathlib.Path(__file__).resolve().parent.parent / "bin" / "suri_run"))
+    parser.add_argument("--program", default=str(PROGRAM))
     parser.add_argument("--runs", type=int, default=30)
     parser.add_argument("--seed", type=int, default=1)
     parser.add_argument("captures", nargs="+", metavar="CAPTURE")

@@ -1,6 +1,7 @@
 #!/usr/bin/env bash
-# Runs of the program under many options, at its limits and far from them: what each run counts must add up, and what met no limit must print the
-# model's text whatever the options. Outside the gate: it takes minutes.
+# Runs of the program under many options, at its limits and far from them: what each run counts must add up, what met no limit must print the
+# model's text whatever the options, and each trail that isn't too long must be lawful. First the judge of trails is tried on samples. Outside the
+# gate: it takes minutes.
 #
 #     [MKCAP=PROGRAM] tests/stress.sh [RUNS [SEED]]
 #
@@ -16,6 +17,8 @@ trap 'rm -rf "$work"' EXIT
 # Builds the program where it has to be built, and tells how far that is; an empty capture is refused.
 bin/suri_run </dev/null 2>&1 | grep -v 'short header' >&2
 [ -x crates/suri_run/out/suri_run ] || exit 1
+
+python3 tests/trails.py --self-test >&2 || exit 1
 
 number=0
 while [ $number -lt 20 ]; do

@@ -30,12 +30,16 @@ def frames_seen(data):
 def text(data, options=Options()):
     """The whole text for these bytes, or Refused."""
     seen, clock, cut_bytes = frames_seen(data)
-    counters = [what for _, what in seen if isinstance(what, str)]
     packets = [what for _, what in seen if not isinstance(what, str)]
-    runs = runs_of(packets, clock)
+    return written(seen, clock, cut_bytes, runs_of(packets, clock), options)
+
+
+def written(seen, clock, cut_bytes, runs, options, limits=None):
+    """The text of these runs, by rising number, and of what the limits did in them."""
+    counters = [what for _, what in seen if isinstance(what, str)]
     capture = {"bytes": sum(len(frame) for frame, _ in seen), "cut_bytes": cut_bytes, "frames": len(seen)}
     lines = [flow_line(run, options) + (netflow_lines(run, options) if options.netflow else "") for run in runs]
-    return "".join(lines) + stats_line(capture, counters, runs, clock)
+    return "".join(lines) + stats_line(capture, counters, runs, clock, limits)
 
 
 def output(data, options=Options()):

@@ -46,8 +46,12 @@ class Ends(NamedTuple):
 
 
 class Run(NamedTuple):
+    """Where limits act, a run may have ended by the emergency table, and its streams may have been given up at a frame, to the server and to the client."""
+
     packets: list
     reason: str
+    emergency: bool = False
+    stops: tuple = (0, 0)
 
 
 def ends(packet):
@@ -127,9 +131,14 @@ def is_expired(run, clock):
     return clock > run[-1].clock + TIMEOUTS[is_tcp(run[0])][class_of(run)] * SECOND
 
 
-def is_reuse(run, packet):
+def is_reuse_of(class_, packet):
+    """The packet opens a new connection where a flow of that class is."""
     opens = is_tcp(packet) and packet.flags & (SYN | ACK | RST) == SYN
-    return opens and class_of(run) == "closed"
+    return opens and class_ == "closed"
+
+
+def is_reuse(run, packet):
+    return is_reuse_of(class_of(run), packet)
 
 
 def cut(packets, last_clock):

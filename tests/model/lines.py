@@ -93,13 +93,13 @@ def named(run, seed, source, dest):
 
 def flow_line(run, options):
     packets, first = run.packets, run.packets[0]
-    flow = sums(packets, run.reason)
+    flow = sums(packets, run.reason) | ({"emergency": True} if run.emergency else {})
     value = named(run, options.seed, *client_and_server(first)) | {
         "event_type": "flow", "pcap_first": first.number, "pcap_last": packets[-1].number, "timestamp": flow["end"], "flow": flow,
     }
     if is_tcp(first):
-        there, back = there_and_back(packets)
-        value |= {"tcp": tcp(packets), "stream": {"toserver": stream(there, options.depth), "toclient": stream(back, options.depth)}}
+        ways = zip(("toserver", "toclient"), there_and_back(packets), run.stops)
+        value |= {"tcp": tcp(packets), "stream": {name: stream(way, options.depth, stop) for name, way, stop in ways}}
     return line(value)
 
 
@@ -127,11 +127,11 @@ def netflow_lines(run, options):
     return lines + (netflow_line(run, options, server, client, back) if back else "")
 
 
-def stats_line(capture, counters, runs, clock):
+def stats_line(capture, counters, runs, clock, limits=None):
     packets = [packet for run in runs for packet in run.packets]
     reasons = [run.reason for run in runs]
     flow = {"records": len(runs), "packets": len(packets), "bytes": sum(packet.length for packet in packets)}
-    pools = dict.fromkeys(("emergency", "emergency_entered", "forced", "memcap_full", "no_flow", "segment_full"), 0)
+    pools = dict.fromkeys(("emergency", "emergency_entered", "forced", "memcap_full", "no_flow", "segment_full"), 0) | (limits or {})
     stats = {
         "capture": capture,
         "decoder": {name: counters.count(name) for name in COUNTERS},

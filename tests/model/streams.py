@@ -33,7 +33,7 @@ def bytes_of(packets, depth):
     return bytes(stream)
 
 
-def stream(packets, depth):
-    """One direction of the object `stream` of a flow line."""
-    carried = bytes_of(packets, depth)
-    return {"bytes": len(carried), "sha1": hashlib.sha1(carried).hexdigest()}
+def stream(packets, depth, stop=0):
+    """One direction of the object `stream` of a flow line; where it was given up at a frame, only packets before that one count."""
+    carried = bytes_of([packet for packet in packets if not stop or packet.number < stop], depth)
+    return {"bytes": len(carried), "sha1": hashlib.sha1(carried).hexdigest()} | ({"stop": stop} if stop else {})

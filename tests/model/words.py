@@ -3,6 +3,8 @@ from typing import NamedTuple
 
 from model.capture import Refused
 
+# The options without a value.
+FLAGS = ("netflow", "audit")
 # The options with a number: their least and greatest value, and their default.
 NUMBERS = {
     "workers": (1, 64, 4), "batch": (1, 256, 32), "round": (1, 65_536, 4_096), "rows": (1, 4_096, 1_024),
@@ -13,7 +15,7 @@ NUMBERS = {
 
 
 class Options(NamedTuple):
-    """Those that have an effect on what is written by a run in which no pool is full."""
+    """Those that have an effect on the lines of a run in which no pool is full. (The trail behind them, with `--audit`, is no text of the model's.)"""
 
     depth: int = 1_048_576
     seed: int = 0
@@ -37,9 +39,9 @@ def read_words(words):
     while rest:
         word = rest.pop(0)
         name, equals, value = word[2:].partition("=")
-        if not word.startswith("--") or name in found or (name != "netflow" and name not in NUMBERS):
+        if not word.startswith("--") or name in found or (name not in FLAGS and name not in NUMBERS):
             raise Refused(2, "words refused")
-        if name == "netflow":
+        if name in FLAGS:
             if equals:
                 raise Refused(2, "words refused")
             found[name] = True
@@ -54,9 +56,10 @@ def read_words(words):
 
 def options(words):
     """The options that these words give, the program's name left out."""
-    found = {name: default for name, (_, _, default) in NUMBERS.items()} | {"netflow": False} | read_words(words)
+    found = {name: default for name, (_, _, default) in NUMBERS.items()} | dict.fromkeys(FLAGS, False) | read_words(words)
     if found["rows"] > found["memcap"]:
         raise Refused(2, f"rows {found['rows']} exceed memcap {found['memcap']}")
-    if (found["generate"] is None) != (found["frames"] is None):
+    is_paired = (found["generate"] is None) == (found["frames"] is None)
+    if not is_paired or (found["audit"] and found["generate"] is not None):
         raise Refused(2, "--generate goes with --frames and without --audit")
     return Options(*(found[name] for name in Options._fields))
