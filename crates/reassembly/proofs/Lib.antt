@@ -3,6 +3,7 @@ pub mod ByNumber
 pub mod Bytes
 pub mod Examples
 pub mod Newer
+pub mod NoBytes
 pub mod Offering
 pub mod Places
 pub mod Standing

@@ -6,13 +6,13 @@ use Rattle.std.specs.Option.{option_or, unwrap_or}
 use Rattle.sha1.specs.Sha1.{Holds}
 use Rattle.sha1.specs.declared.Sha1.{Sha1}
 use Rattle.suri_base.specs.declared.stream.Offer.TheVariants.{InOrder, Nothing, NeedsSegment, Stopped}
-use Rattle.reassembly.specs.Kept.{Asks, KeptStream, Rises, Stands, Tells, newest_of, spot_in, waiting_among}
+use Rattle.reassembly.specs.Kept.{Asks, IsBlank, KeptStream, Rises, Stands, Tells, newest_of, spot_in, waiting_among}
 use Rattle.reassembly.specs.Members.{Member, base_of, before_stop, first_of, offer_of, part_of, parts_of, sequence_of, sets_base, stream_of}
 use Rattle.reassembly.specs.Parts.{answer_to, beyond, bytes_from, byte_at, frontier_of, waiting_of, Part}
 use Rattle.segment_tree.specs.declared.spot.Spot.{Spot}
 use Rattle.reassembly.proofs.Steps.{Far, needs_far, needs_stream, needs_waiting, nothing_old, nothing_stream, nothing_waiting}
 use Rattle.reassembly.proofs.Steps.{order_frontier, order_near, order_stream, order_waiting}
-use Rattle.reassembly.proofs.Turns.{empty_old, empty_part, no_payload, same_stream, same_waiting, seen_from}
+use Rattle.reassembly.proofs.Turns.{empty_old, empty_part, empty_stream, no_payload, same_stream, same_waiting, seen_from}
 
 -- what is kept of members where no stop was set
 pub record Unstopped (kept : KeptStream) (members : List Member) : Type 0 where
@@ -48,6 +48,23 @@ stands_of kept members none settled rises o = record {
   waiting = waits_of kept members none o;
   settled = settled;
 }
+
+-- a stream is blank where it keeps nothing but its setting
+pub blank_of : (depth : ℕ) (kept : KeptStream) → kept.depth ≡ depth → kept.base ≡ None → kept.frontier ≡ 0 → Holds kept.hasher [] → kept.waiting ≡ []
+    → kept.freed ≡ 0 → kept.stop ≡ 0 → kept.asked ≡ None → IsBlank depth kept
+blank_of depth kept setting base frontier digest waiting freed stop asked =
+    let none = empty_stream kept.depth [] tt in
+    record {
+      setting = setting;
+      stands = stands_of kept [] stop asked tt (record {
+        base = base;
+        frontier = frontier ∙ sym (ap length none);
+        digest = subst (Holds kept.hasher) (sym none) digest;
+        waiting = waiting;
+      });
+      unstopped = stop;
+      holds_none = freed;
+    }
 
 -- what begins beyond an offset is what the parts bring that do
 pub spots_beyond : (f : ℕ) (spots : List Spot) (parts : List Part) → spots ≡ map spot_in parts

@@ -6,6 +6,7 @@
 #![tactic(auto)]
 
 mod chain;
+mod digest;
 mod offset;
 mod stream;
 mod stretch;

@@ -6,6 +6,7 @@ ghost use Rattle.reassembly.specs.Kept.{AllLieIn, Asks, IsBlank, LiesIn, Stands,
 ghost use Rattle.reassembly.specs.Members.{Member, line_of, member, offer_of};
 
 use crate::chain::{move_all, release};
+use crate::digest::take_digest;
 use crate::offset::{opening, placed, sequence};
 use crate::stretch::{answer, take_stretches};
 use segment_tree::{SegmentTree, Spot};
@@ -27,6 +28,7 @@ pub struct Stream {
     base: Option<u32>,
     // How many bytes came without a gap. They were digested.
     frontier: u32,
+    // Where the frontier is 0 it holds no byte.
     hasher: Sha1,
     // The nodes of members that begin beyond the frontier.
     waiting: SegmentTree,
@@ -57,10 +59,12 @@ impl Model for Stream {
       asked = s.asked;
     } };
 
+    ghost use Rattle.std.specs.Prelude.{◌≡◌, []};
     ghost use Rattle.std.specs.Option.{IfSome};
     ghost use Rattle.reassembly.specs.Nodes.{MayWait};
+    ghost use Rattle.sha1.specs.Sha1.{Holds};
 
-    ghost invariant = { λ s. IfSome s.asked (λ spot. MayWait s.waiting spot) };
+    ghost invariant = { λ s. IfSome s.asked (λ spot. MayWait s.waiting spot) × (s.frontier ≡ 0 → Holds s.hasher []) };
 }
 
 impl Stream {
@@ -227,17 +231,15 @@ impl Stream {
         ensures line { (members : List Member) → Tells self.old members → result ≡ line_of self.old.depth self.old.stop members }
         ensures blank { IsBlank self.old.depth self.new }
     {
-        let stream = mem::replace(self, Stream::blank(self.depth));
-        let Stream {
-            frontier,
-            hasher,
-            stop,
-            ..
-        } = stream;
-        StreamLine {
-            bytes: frontier,
-            digest: hasher.finalize(),
-            stop,
-        }
+        let line = StreamLine {
+            bytes: self.frontier,
+            digest: take_digest(&mut self.hasher, self.frontier),
+            stop: self.stop,
+        };
+        self.base = None;
+        self.frontier = 0;
+        self.stop = 0;
+        self.asked = None;
+        line
     }
 }

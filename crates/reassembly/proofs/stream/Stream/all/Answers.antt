@@ -7,7 +7,10 @@ use Rattle.reassembly.proofs.Newer.{may_alone}
 use Rattle.reassembly.proofs.stream.Stream.all.Goals as goal
 
 pub invariant_of-self : goal.invariant_of-self
-invariant_of-self c = may_alone c.self.inside.waiting c.replace-waiting.new.dest c.self.inside.asked (c.replace-waiting.ensures.after ∙ c.new-2.ensures) c.self.invariant
+invariant_of-self c = (
+  may_alone c.self.inside.waiting c.replace-waiting.new.dest c.self.inside.asked (c.replace-waiting.ensures.after ∙ c.new-2.ensures) c.self.invariant.0,
+  c.self.invariant.1,
+)
 
 pub returns-clause-freed : goal.returns-clause-freed
 returns-clause-freed c =

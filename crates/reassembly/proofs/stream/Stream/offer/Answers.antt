@@ -147,9 +147,11 @@ invariant_of-self c =
     let now = the_view c.self.inside in
     let known = c.requires.known in
     let m = next at known.0 known.1 known.2 known.3 in
-    let g = given at known.0 known.1 known.2 known.3 in
-    may_wait c.args.no now.depth (unwrap_or (base_of (m ∷ known.0)) 0) c.self.inside.waiting _ known.0 g.stands.rises known.3 c.ranges.no.fits
-    (seen now c.args.bytes.now m known.0 g).waiting refl c.placed-first.ensures.fits
+    let g = given at known.0 known.1 known.2 known.3 in (
+      may_wait c.args.no now.depth (unwrap_or (base_of (m ∷ known.0)) 0) c.self.inside.waiting _ known.0 g.stands.rises known.3 c.ranges.no.fits
+          (seen now c.args.bytes.now m known.0 g).waiting refl c.placed-first.ensures.fits,
+      c.self.invariant.1,
+    )
 
 pub returns-in-InOrder-clause-nodes : goal.returns-in-InOrder-clause-nodes
 returns-in-InOrder-clause-nodes c =

@@ -13,7 +13,7 @@ use Rattle.reassembly.proofs.stream.Stream.store.Goals.{In-Some}
 -- what the stream asked for may wait
 module _ (c : In-Some) where
   may : MayWait c.self.inside.waiting c.in-Some.spot
-  may = subst (λ (o : Option Spot). IfSome o (λ s. MayWait c.self.inside.waiting s)) c.in-Some.is c.self.invariant
+  may = subst (λ (o : Option Spot). IfSome o (λ s. MayWait c.self.inside.waiting s)) c.in-Some.is c.self.invariant.0
 
 pub insert-requires-clause-fits : goal.insert-requires-clause-fits
 insert-requires-clause-fits c =
