@@ -8,22 +8,24 @@ ghost use Rattle.key_order.specs.declared.places.KeyPlace as Place;
 
 use suri_base::Key;
 
-/// An address in four parts, so that it may stand at each fourth byte.
+/// An address in four parts, so that it may stand at each fourth byte. The low end comes first, since it differs
+/// most often: of an IPv4 address the other parts are 0.
 #[derive(Clone, Copy, Debug, PartialEq, Eq, PartialOrd, Ord)]
 pub struct Address {
-    pub high: u32,
-    pub upper: u32,
-    pub lower: u32,
     pub low: u32,
+    pub lower: u32,
+    pub upper: u32,
+    pub high: u32,
 }
 
-/// The fields of a key, in the order in which keys are compared: 48 bytes.
+/// The fields of a key, those first that differ most often between the flows of a host, in the order in which keys are
+/// compared: 48 bytes.
 #[derive(Clone, Copy, Debug, PartialEq, Eq, PartialOrd, Ord)]
 pub struct KeyPlace {
+    pub b_port: u16,
+    pub a_port: u16,
     pub a: Address,
     pub b: Address,
-    pub a_port: u16,
-    pub b_port: u16,
     pub first: u16,
     pub second: u16,
     pub third: u16,
@@ -39,10 +41,10 @@ impl Address {
         ensures { result ≡ address_of addr }
     {
         Address {
-            high: (addr >> 96) as u32,
-            upper: ((addr >> 64) % (1 << 32)) as u32,
-            lower: ((addr >> 32) % (1 << 32)) as u32,
             low: (addr % (1 << 32)) as u32,
+            lower: ((addr >> 32) % (1 << 32)) as u32,
+            upper: ((addr >> 64) % (1 << 32)) as u32,
+            high: (addr >> 96) as u32,
         }
     }
 }
@@ -52,10 +54,10 @@ pub fn place(key: &Key) -> KeyPlace
     ensures { result ≡ place_of key.now }
 {
     KeyPlace {
+        b_port: key.b.port,
+        a_port: key.a.port,
         a: Address::new(key.a.addr),
         b: Address::new(key.b.addr),
-        a_port: key.a.port,
-        b_port: key.b.port,
         first: key.vlans.first,
         second: key.vlans.second,
         third: key.vlans.third,
