@@ -112,7 +112,7 @@ module _ {A N C R F : Type 0} (fixed : A → F) (stands : A → List (Entry N) �
   turn_facts s r id v h at rests =
       let k = r.each id v at in
       let toward : (P : L → Type 0) → P r.log → P (past_of h) = λ P p. subst P (sym rests.2) p in record {
-        rests = (rests.0, toward (stands h.machine) rests.1, refl);
+        rests = (rests.0, toward (stands h.machine.value) rests.1, refl);
         legal = toward (LegalIn fixed stands may answers f) r.legal;
         known = toward (All (λ (e : Entry N). e.role < roles)) r.known;
         seen = toward (Begins v.seen) k.seen;
@@ -220,7 +220,7 @@ module _ {A N C R F : Type 0} (fixed : A → F) (stands : A → List (Entry N) �
       )
 
   -- the turn is given back
-  pub gives_turn : (id : ℕ) (v : V) (h : Home A N) → v.whole ≡ Some (past_of h) → fixed h.machine ≡ f → stands h.machine (past_of h)
+  pub gives_turn : (id : ℕ) (v : V) (h : Home A N) → v.whole ≡ Some (past_of h) → fixed h.machine.value ≡ f → stands h.machine.value (past_of h)
       → Allows Rule 1 id (v, (0, Some h) ∷ []) 0 (λ _. 0) (Gives (step 1 0 0 0 none) (v, (0, Some h) ∷ []))
   unfolding Placed
   gives_turn id v h has_turn right stood s r one at _ =
@@ -243,7 +243,7 @@ module _ {A N C R F : Type 0} (fixed : A → F) (stands : A → List (Entry N) �
           counts = count ∙ r.counts;
           legal = r.legal;
           known = r.known;
-          at_home = λ _. (h, set_here s.homes 0 (some (Some h)) (omega arith), (right, subst (stands h.machine) same stood, same));
+          at_home = λ _. (h, set_here s.homes 0 (some (Some h)) (omega arith), (right, subst (stands h.machine.value) same stood, same));
           out = λ e. absurd (omega arith);
           away = λ e. absurd (omega arith);
           placed = placed_set s.views id v w r.owner at (λ role made g. (made, g)) r.placed;
@@ -262,7 +262,7 @@ module _ {A N C R F : Type 0} (fixed : A → F) (stands : A → List (Entry N) �
       subst (λ (c : List (ℕ × Option (Home A N))). Allows Rule slots id (me.0, c) 1 (λ x. (x + 1) % 2 ^ 64) (Counts (step slots 1 1 0 none) (me.0, c))) (sym carried)
       (counts_entry slots id me.0 h log e made has_turn is has follows fits)
 
-  pub gives_carried : (slots id : ℕ) (me : M) (h : Home A N) → slots ≡ 1 → me.1 ≡ (0, Some h) ∷ [] → me.0.whole ≡ Some (past_of h) → fixed h.machine ≡ f → stands h.machine (past_of h)
+  pub gives_carried : (slots id : ℕ) (me : M) (h : Home A N) → slots ≡ 1 → me.1 ≡ (0, Some h) ∷ [] → me.0.whole ≡ Some (past_of h) → fixed h.machine.value ≡ f → stands h.machine.value (past_of h)
       → Allows Rule slots id me 0 (λ _. 0) (λ _. Gives (step slots 0 0 0 none) me 0)
   gives_carried slots id me h one carried has_turn right stood s r many at small =
       let t = gives_turn id me.0 h has_turn right stood s r (many ∙ one) at small in

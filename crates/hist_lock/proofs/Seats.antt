@@ -110,7 +110,7 @@ module _ {A N C R F : Type 0} (fixed : A → F) (stands : A → List (Entry N) �
   held s = get_or s.words 0 0
 
   -- the first seat of a new table has every role
-  pub opens : (h : Home A N) → fixed h.machine ≡ f → stands h.machine [] → h.entries.items ≡ [] → Rule (opening (0 ∷ 0 ∷ []) (Some h ∷ []) (newcomer f roles))
+  pub opens : (h : Home A N) → fixed h.machine.value ≡ f → stands h.machine.value [] → h.entries.items ≡ [] → Rule (opening (0 ∷ 0 ∷ []) (Some h ∷ []) (newcomer f roles))
   opens h right stood empty = record {
     log = [];
     turn = 0;

@@ -145,7 +145,7 @@ module _ {A N C R F : Type 0} (fixed : A → F) (stands : A → List (Entry N) �
 
   -- what lies in the slot: a machine that stands for its entries, which are the history
   abbrev pub Rests : F → List (Entry N) → Home A N → Type 0
-  Rests f log h = (fixed h.machine ≡ f) × stands h.machine log × (past_of h ≡ log)
+  Rests f log h = (fixed h.machine.value ≡ f) × stands h.machine.value log × (past_of h ≡ log)
 
   -- what a view says of the history so far. `turn` is the seat that has the turn, and `owner` the seat of each role
   pub record Fits (f : F) (roles : ℕ) (log : List (Entry N)) (held turn : ℕ) (owner : ℕ → ℕ) (seat : ℕ) (v : View N F) : Type 0 where

@@ -64,6 +64,7 @@ impl<M: Machine + Drop> HistLock<M> {
             unreachable!();
         }
         let Home { machine, entries } = self.lift(&mut seat);
+        let machine = Box::into_inner(machine);
         (machine, entries)
     }
 }

@@ -12,6 +12,7 @@ use crate::pass::Pass;
 use crate::table::{HistLock, Refused};
 use crate::view::{Home, View};
 use atomic_table::Seat;
+use std::hint::spin_loop;
 use std::sync::Wait;
 use std::sync::atomic::Ordering;
 use suri_base::{Entry, Machine};
@@ -25,10 +26,24 @@ pub(crate) const COUNT: usize = 1;
 // The slot of the machine and its entries.
 const SLOT: usize = 0;
 
+// How often a role asks for the turn before it sleeps. A turn takes about a microsecond, and to sleep and be woken some fifty:
+// so it asks for about as long as that.
+const ASKS: u32 = 256;
+
+// How often it pauses between two asks, so that these don't slow the role that has the turn.
+const PAUSES: u32 = 4;
+
 pub(crate) type LockSeat<M> = Seat<
     Option<Home<M, <M as Machine>::Note>>,
     View<<M as Machine>::Note, <M as Machine>::Fixed>,
 >;
+
+// Lets a moment pass.
+fn pause() {
+    for _ in 0..PAUSES {
+        spin_loop();
+    }
+}
 
 // Makes the call, and adds its entry to the history; or hands the call back where memory is refused.
 fn turn<M: Machine>(
@@ -37,11 +52,11 @@ fn turn<M: Machine>(
     step: u64,
     call: M::Call,
 ) -> Result<M::Reply, M::Call>
-    requires stands { M.stands home.old.machine (past_of home.old) }
-    requires may { M.may (M.fixed home.old.machine) role (past_of home.old) call }
-    ensures fixed { M.fixed home.new.machine ≡ M.fixed home.old.machine }
-    ensures stands { M.stands home.new.machine (past_of home.new) }
-    ensures ok { IfOk result (λ reply. (note : M.Note) × (past_of home.new ≡ entry role step note ∷ past_of home.old) × M.answers (M.fixed home.old.machine) (past_of home.old) role call reply note) }
+    requires stands { M.stands home.old.machine.value (past_of home.old) }
+    requires may { M.may (M.fixed home.old.machine.value) role (past_of home.old) call }
+    ensures fixed { M.fixed home.new.machine.value ≡ M.fixed home.old.machine.value }
+    ensures stands { M.stands home.new.machine.value (past_of home.new) }
+    ensures ok { IfOk result (λ reply. (note : M.Note) × (past_of home.new ≡ entry role step note ∷ past_of home.old) × M.answers (M.fixed home.old.machine.value) (past_of home.old) role call reply note) }
     ensures err { IfErr result (λ c. (c ≡ call) × (past_of home.new ≡ past_of home.old)) }
 {
     if home.entries.try_reserve(1).is_err() {
@@ -56,7 +71,7 @@ fn turn<M: Machine>(
 }
 
 impl<M: Machine> HistLock<M> {
-    // Waits for the turn, parked while another role has it.
+    // Waits for the turn: asks for it a number of times, and then sleeps while another role has it.
     fn take_turn<R: Wait>(&self, rt: &R, seat: &mut LockSeat<M>)
         requires lock { IsOf (lock_id self.now) (M.fixed (made_with self.now)) (roles_of self.now) seat.old }
         requires idle { (length seat.old.me.1 ≡ 0) × (is_none seat.old.me.0.whole ≡ true) }
@@ -65,10 +80,11 @@ impl<M: Machine> HistLock<M> {
         ensures turn { (h : Home M M.Note) × (seat.new.me ≡ (turned seat.old.me.0 (past_of h), (0, Some h) ∷ [])) × IsTurn M.fixed M.stands M.may M.answers (M.fixed (made_with self.now), (roles_of self.now)) seat.old.me.0 h }
     {
         let shared = &self.table.shared;
-        let mut sleeps = false;
+        let mut asks: u32 = 0;
         for _ in rt.forever() {
             // Who may sleep says so before it asks again: so the one that gives the turn back then sees it. Who was
             // woken says so too, since others may sleep still.
+            let sleeps = asks >= ASKS;
             if sleeps {
                 self.asleep.store(1, Ordering::SeqCst);
             }
@@ -77,8 +93,10 @@ impl<M: Machine> HistLock<M> {
             }
             if sleeps {
                 self.asleep.park(rt, 1);
+            } else {
+                asks += 1;
+                pause();
             }
-            sleeps = true;
         }
         unreachable!()
     }
@@ -121,7 +139,7 @@ impl<M: Machine> HistLock<M> {
     // Gives the turn back with what the seat carries, and wakes one that waits, where there is one.
     fn give_turn(&self, seat: &mut LockSeat<M>)
         requires lock { seat.old.table_id ≡ lock_id self.now }
-        requires turn { (h : Home M M.Note) × (seat.old.me.1 ≡ (0, Some h) ∷ []) × (seat.old.me.0.whole ≡ Some (past_of h)) × (M.fixed h.machine ≡ M.fixed (made_with self.now)) × M.stands h.machine (past_of h) }
+        requires turn { (h : Home M M.Note) × (seat.old.me.1 ≡ (0, Some h) ∷ []) × (seat.old.me.0.whole ≡ Some (past_of h)) × (M.fixed h.machine.value ≡ M.fixed (made_with self.now)) × M.stands h.machine.value (past_of h) }
         ensures same { Stays seat.old seat.new }
         ensures after { seat.new.me ≡ (idle seat.old.me.0, []) }
     {
@@ -149,7 +167,7 @@ impl<M: Machine> HistLock<M> {
     fn leave(&self, seat: &mut LockSeat<M>, home: Home<M, M::Note>)
         requires lock { seat.old.table_id ≡ lock_id self.now }
         requires turn { (seat.old.me.1 ≡ (0, None) ∷ []) × (seat.old.me.0.whole ≡ Some (past_of home)) }
-        requires home { (M.fixed home.machine ≡ M.fixed (made_with self.now)) × M.stands home.machine (past_of home) }
+        requires home { (M.fixed home.machine.value ≡ M.fixed (made_with self.now)) × M.stands home.machine.value (past_of home) }
         ensures same { Stays seat.old seat.new }
         ensures after { seat.new.me ≡ (idle seat.old.me.0, []) }
     {
@@ -163,7 +181,7 @@ impl<M: Machine> HistLock<M> {
         requires lock { seat.old.table_id ≡ lock_id self.now }
         requires slot { seat.old.me.1 ≡ (0, None) ∷ [] }
         requires entry { HasNext M.may M.answers (M.fixed (made_with self.now)) seat.old.me.0 home }
-        requires home { (M.fixed home.machine ≡ M.fixed (made_with self.now)) × M.stands home.machine (past_of home) }
+        requires home { (M.fixed home.machine.value ≡ M.fixed (made_with self.now)) × M.stands home.machine.value (past_of home) }
         ensures same { Stays seat.old seat.new }
         ensures after { seat.new.me ≡ (idle (entered seat.old.me.0 (past_of home)), []) }
     {

@@ -62,6 +62,9 @@ impl<M: Machine + Drop> HistLock<M> {
             machine: Snapshot::of(&machine),
             roles,
         };
+        let Ok(machine) = Box::new(alloc, machine) else {
+            return Err(NoMemory);
+        };
         slots.push_reserved(Some(Home {
             machine,
             entries: Vec::new(alloc),

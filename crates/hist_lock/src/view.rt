@@ -19,9 +19,11 @@ pub struct View<N, F> {
 }
 
 /// What lies in the slot: the machine and the entries of its history, in the order of time.
+///
+/// The machine stays in one place, so that a turn moves a few words out of the slot and back, whatever the machine's size.
 #[derive(Drop)]
 pub struct Home<A, N> {
-    pub machine: A,
+    pub machine: Box<A>,
     pub entries: Vec<Entry<N>, Global>,
 }
 
