@@ -15,11 +15,11 @@ use Rattle.run_counts.specs.declared.counts.Counts.{Counts}
 use Rattle.run_counts.specs.Frames.{all_counted, counts_of, with_frame, with_one_under}
 
 -- one more, or not
-abbrev plus : Bool → ℕ → ℕ
+abbrev pub plus : Bool → ℕ → ℕ
 plus true n = n + 1
 plus false n = n
 
-plus-is : (b : Bool) (n : ℕ) → n + cond b 1 0 ≡ plus b n
+pub plus-is : (b : Bool) (n : ℕ) → n + cond b 1 0 ≡ plus b n
 plus-is true n = refl
 plus-is false n = omega arith
 

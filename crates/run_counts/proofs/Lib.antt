@@ -1,4 +1,5 @@
 mod Counting
+mod Recording
 mod Summing
 mod Telling
 pub mod Adding

@@ -1,5 +1,5 @@
 -- Counts that are told one by one are the counts of a run.
-use Rattle.std.proofs.Common.{◌≡◌, length, ap, sym, ◌∙◌}
+use Rattle.std.proofs.Common.{◌≡◌, List, length, ap, sym, ◌∙◌}
 use Rattle.std.specs.Prelude.{count_by, sum_by}
 use Rattle.suri_base.specs.Capture.{Captured}
 use Rattle.suri_base.specs.Clock.{clock_of}
@@ -7,11 +7,14 @@ use Rattle.suri_base.specs.Counters.{counted_under}
 use Rattle.suri_base.specs.Trail.{Trailed}
 use Rattle.suri_base.specs.declared.counter.Counter.{Counter}
 use Rattle.suri_base.specs.declared.counter.Counter.TheVariants.{LinkSmall, VlanSmall, VlanDeep, Ethertype, IpSmall, IpVersion, IpHeader, IpExtensions, Fragment, TcpSmall, TcpHeader, UdpSmall, IcmpSmall, OtherProto}
-use Rattle.run_stats.specs.Counting.{AreFrameCounts, field_of}
+use Rattle.flow_object.specs.declared.outcome.FlowLine.{FlowLine}
+use Rattle.run_stats.specs.Counting.{AreFrameCounts, AreRecordCounts, field_of}
 use Rattle.run_stats.specs.declared.stats.Stats.{Stats}
 use Rattle.run_counts.specs.declared.counts.Counts.{Counts}
+use Rattle.run_counts.specs.declared.records.RecordCounts.{RecordCounts}
 use Rattle.run_counts.specs.Counting.{AreHistoryCounts, all_refusals, emergencies_begun}
 use Rattle.run_counts.specs.Frames.{counts_of}
+use Rattle.run_counts.specs.Records.{records_of}
 use Rattle.run_rules.specs.Histories.{histories_of}
 use Rattle.run_rules.specs.Quiet.{is_full, is_short}
 use Rattle.run_counts.proofs.Summing.{count_reversed, refusals_reversed}
@@ -55,6 +58,31 @@ frame_counts capture s counters clock bytes cut frames = record { clock = clock;
     each UdpSmall = ap (λ (c : Counts). c.udp_small) counters
     each IcmpSmall = ap (λ (c : Counts). c.icmp_small) counters
     each OtherProto = ap (λ (c : Counts). c.other_proto) counters
+
+-- the counts of records among the counts
+abbrev pub records_in : Stats → RecordCounts
+records_in s = record {
+  packets = s.packets;
+  bytes = s.flow_bytes;
+  timeout = s.timeout;
+  tcp_reuse = s.tcp_reuse;
+  forced = s.forced;
+  shutdown = s.shutdown;
+  emergency = s.emergency;
+}
+
+pub record_counts : (lines : List FlowLine) (s : Stats) → records_in s ≡ records_of lines → s.records ≡ length lines → AreRecordCounts lines s
+unfolding records_of
+record_counts lines s counts records = record {
+  records = records;
+  packets = ap (λ (c : RecordCounts). c.packets) counts;
+  bytes = ap (λ (c : RecordCounts). c.bytes) counts;
+  timeout = ap (λ (c : RecordCounts). c.timeout) counts;
+  tcp_reuse = ap (λ (c : RecordCounts). c.tcp_reuse) counts;
+  forced = ap (λ (c : RecordCounts). c.forced) counts;
+  shutdown = ap (λ (c : RecordCounts). c.shutdown) counts;
+  emergency = ap (λ (c : RecordCounts). c.emergency) counts;
+}
 
 pub history_counts : (t : Trailed) (s : Stats) → s.no_flow ≡ all_refusals t.buckets → s.memcap_full ≡ count_by (λ e. is_full e.note) t.pool
     → s.segment_full ≡ count_by (λ e. is_short e.note) t.segments → s.emergency_entered ≡ emergencies_begun (histories_of t).pool → AreHistoryCounts (histories_of t) s

@@ -1,3 +1,4 @@
 pub mod Adding
 pub mod Counting
 pub mod Frames
+pub mod Records

@@ -67,11 +67,33 @@ pub fn all_refusals(trail: &Trail) -> u64
     count
 }
 
-/// How often no flow object was left.
-pub fn times_full(history: &[Entry<PoolNote>]) -> usize
-    ensures { result ≡ count_by (λ e. is_full e.note) history.now }
+/// What is counted of the history of the pool of flows.
+#[derive(Clone, Copy, Debug)]
+pub struct PoolCounts {
+    /// How often no flow object was left.
+    pub full: usize,
+    /// How often that was so while no emergency was on.
+    pub begun: usize,
+}
+
+/// What is counted of the history of the pool of flows, in the order of time. Each entry is read once.
+pub fn count_pool(history: &[Entry<PoolNote>]) -> PoolCounts
+    ensures full { result.full ≡ count_by (λ e. is_full e.note) history.now }
+    ensures begun { result.begun ≡ emergencies_begun (reverse history.now) }
 {
-    history.iter().filter(|entry| is_full(entry.note)).count()
+    let mut full: usize = 0;
+    let mut begun: usize = 0;
+    let mut on = false;
+    for entry in history {
+        if is_full(entry.note) {
+            full += 1;
+        }
+        if begins_emergency(on, entry.note) {
+            begun += 1;
+        }
+        on = is_on_after(on, entry.note);
+    }
+    PoolCounts { full, begun }
 }
 
 /// How often no segment node was left.
@@ -79,19 +101,4 @@ pub fn times_short(history: &[Entry<SegNote>]) -> usize
     ensures { result ≡ count_by (λ e. is_short e.note) history.now }
 {
     history.iter().filter(|entry| is_short(entry.note)).count()
-}
-
-/// How often no flow object was left while no emergency was on, in a history in the order of time.
-pub fn emergencies_begun(history: &[Entry<PoolNote>]) -> usize
-    ensures { result ≡ emergencies_begun (reverse history.now) }
-{
-    let mut begun: usize = 0;
-    let mut on = false;
-    for entry in history {
-        if begins_emergency(on, entry.note) {
-            begun += 1;
-        }
-        on = is_on_after(on, entry.note);
-    }
-    begun
 }

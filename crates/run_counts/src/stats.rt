@@ -3,11 +3,11 @@ ghost use Rattle.run_counts.specs.Counting.{IsStatsOf, all_refusals};
 ghost use Rattle.std.specs.Prelude.{◌+◌, ◌^◌, ◌<◌, sum_by};
 
 use crate::frames::{capture_bytes, count_frames};
-use crate::histories::{all_refusals, emergencies_begun, times_full, times_short};
-use crate::records::{bytes_of, emergencies, ended_for, packets_of};
+use crate::histories::{all_refusals, count_pool, times_short};
+use crate::records::count_records;
 use flow_object::FlowLine;
 use run_stats::Stats;
-use suri_base::{Capture, Reason, Trail};
+use suri_base::{Capture, Trail};
 
 /// The counts of a run: of its capture, of the flow records made of it, and of what its machines went through.
 pub fn stats_of(capture: &Capture, lines: &[FlowLine], trail: &Trail) -> Stats
@@ -18,7 +18,8 @@ pub fn stats_of(capture: &Capture, lines: &[FlowLine], trail: &Trail) -> Stats
     ensures { IsStatsOf capture.now lines.now trail.now result }
 {
     let counts = count_frames(capture);
-    let full = times_full(&trail.pool);
+    let records = count_records(lines);
+    let pool = count_pool(&trail.pool);
     let short = times_short(&trail.segments);
     Stats {
         clock: capture.last_clock(),
@@ -40,16 +41,16 @@ pub fn stats_of(capture: &Capture, lines: &[FlowLine], trail: &Trail) -> Stats
         vlan_deep: counts.vlan_deep,
         vlan_small: counts.vlan_small,
         records: lines.len() as u64,
-        packets: packets_of(lines),
-        flow_bytes: bytes_of(lines),
-        timeout: ended_for(Reason::Timeout, lines) as u64,
-        tcp_reuse: ended_for(Reason::TcpReuse, lines) as u64,
-        forced: ended_for(Reason::Forced, lines) as u64,
-        shutdown: ended_for(Reason::Shutdown, lines) as u64,
-        emergency: emergencies(lines) as u64,
+        packets: records.packets,
+        flow_bytes: records.bytes,
+        timeout: records.timeout,
+        tcp_reuse: records.tcp_reuse,
+        forced: records.forced,
+        shutdown: records.shutdown,
+        emergency: records.emergency,
         no_flow: all_refusals(trail),
-        memcap_full: full as u64,
+        memcap_full: pool.full as u64,
         segment_full: short as u64,
-        emergency_entered: emergencies_begun(&trail.pool) as u64,
+        emergency_entered: pool.begun as u64,
     }
 }
