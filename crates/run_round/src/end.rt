@@ -1,8 +1,9 @@
 //! The end of a run.
+ghost use Rattle.end_laws.specs.Ended.{lines_in};
 ghost use Rattle.role_meets.specs.Parts.{lines_of, passes_in};
 ghost use Rattle.run_round.specs.Closing.{AreAll, AreParted, HaveFinished};
 ghost use Rattle.run_start.specs.Starting.{HaveRoles};
-ghost use Rattle.std.specs.Prelude.{◌≡◌, ◌<◌, ◌++◌, IfOk, OnOk, length};
+ghost use Rattle.std.specs.Prelude.{◌≡◌, ◌<◌, ◌++◌, ◌-◌, ◌^◌, IfOk, OnOk, length, min};
 
 use flow_object::FlowLine;
 use lock_rows::finish_rows;
@@ -10,6 +11,28 @@ use role_meets::{Part, Role};
 use role_steps::{Passes, Recycler, Shared};
 use std::alloc::Global;
 use suri_base::{NoMemory, Trail};
+
+// How many lines a role has.
+fn count_of<'c>(part: &Part<'c>) -> usize
+    ensures { result ≡ length (lines_of part.now) }
+{
+    match part {
+        Part::Work(worker) => worker.lines.len(),
+        Part::Manage(_) => 0,
+        Part::Recycle(recycler) => recycler.lines.len(),
+    }
+}
+
+// How many lines all roles have, as far as a `usize` counts.
+fn count_all<'c>(roles: &[Role<'c>]) -> usize
+    ensures { result ≡ min (length (lines_in roles.now)) (2 ^ 64 - 1) }
+{
+    let mut count = 0usize;
+    for role in roles {
+        count = count.saturating_add(count_of(&role.part));
+    }
+    count
+}
 
 // These lines go behind those.
 fn join(lines: &mut Vec<FlowLine>, mut more: Vec<FlowLine>) -> Result<(), NoMemory>
@@ -50,7 +73,9 @@ pub fn take_apart<'c>(
     ensures { IfOk result (λ t. AreParted roles.entry.items ender.entry t.0.items t.1.items) }
 {
     let mut passes = Vec::with_capacity(alloc, roles.len() + 1)?;
-    let mut lines = Vec::new(alloc);
+    // Room for all lines at once: a vector that grows copies those that it has, which may be a million.
+    let count = count_all(&roles).saturating_add(ender.lines.len());
+    let mut lines = Vec::with_capacity(alloc, count)?;
     roles.reverse();
     while let Some(role) = roles.pop() {
         let own = part_of(role.part, &mut lines)?;

@@ -18,6 +18,7 @@ use crate::hands::take_waiting;
 use crate::rounds::run_rounds;
 use capture_index::rounds;
 use flow_object::FlowLine;
+use rayon::prelude::par_sort_unstable_by_key;
 use recycler::drain_all;
 use role_meets::Role;
 use role_steps::{Recycler, Shared};
@@ -29,12 +30,13 @@ use suri_base::{Capture, Layout, NoMemory, Trail};
 use suri_opts::Options;
 use suri_outside::Gate;
 
-// The lines by the numbers of their runs.
-fn sort_lines(lines: &mut Vec<FlowLine>)
+// The lines by the numbers of their runs, sorted in as many threads as there are processors. No thread is started for
+// fewer than some thousand lines.
+fn sort_lines(rt: &(impl Threads + Sync), lines: &mut Vec<FlowLine>)
     ensures same { IsPermutation lines.old.items lines.new.items }
     ensures rising { IsNonDecreasingBy (λ l. l.sums.first_no) lines.new.items }
 {
-    lines.sort_unstable_by_key(|line| line.sums.first_no);
+    par_sort_unstable_by_key(rt, lines.as_mut_slice(), |line| line.sums.first_no);
 }
 
 // The end of a run after its last round: the end role has its turn, and all locks end.
@@ -89,7 +91,7 @@ pub fn run_with<R: Threads + Wait + Sync, G: Gate + Sync>(
         rt, alloc, &shared, count, &mut roles, &mut ender, gate, threads,
     )?;
     let (mut lines, trail) = close(rt, alloc, shared, roles, ender)?;
-    sort_lines(&mut lines);
+    sort_lines(rt, &mut lines);
     Ok((lines, trail))
 }
 

@@ -13,7 +13,7 @@ pub loop-role-init : goal.loop-role-init
 loop-role-init c =
     let all : c.args.roles.items ≡ reverse c.reverse.new.self.items = sym (ap reverse c.reverse.ensures.items ∙ reverse-reverse c.args.roles.items) in (
       omega (arith, ap length c.in_ok-passes.ensures.items, c.in_ok-passes.ensures.capacity, c.len.ensures, c.reverse.ensures.len, c.reverse.new.self.ok.0),
-      ([], all, c.in_ok-passes.ensures.items, c.new-lines.ensures.items),
+      ([], all, c.in_ok-passes.ensures.items, c.in_ok-lines.ensures.items),
     )
 
 pub loop-role-preserved : goal.loop-role-preserved
