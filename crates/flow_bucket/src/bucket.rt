@@ -85,7 +85,7 @@ impl<'c> FlowBucket<'c> {
         ensures flows { filled self.new.flows.slots ≡ filled self.old.flows.slots }
         ensures kept { (other : BucketCall) → HasRoom self.old other → HasRoom self.new other }
     {
-        match self.gone.reserve(self.flows.count() as usize) {
+        match self.gone.reserve(self.flows.slot_count()) {
             Ok(_) => Ok(()),
             Err(_) => Err(NoMemory),
         }

@@ -4,9 +4,11 @@ use Rattle.std.specs.declared.cmp.Ordering.{Ordering}
 use Rattle.key_order.specs.Ages.{age_cmp}
 use Rattle.key_order.specs.KeyPlaces.{place_cmp}
 use Rattle.slot_order.specs.Order.{added, CanReplace}
-use Rattle.flow_orders.specs.Keys.{marks_of}
-use Rattle.flow_orders.specs.Orders.{CanMend, FlowOrders, HasRoomToBegin}
+use Rattle.flow_orders.specs.Keys.{marks_of, times_in}
+use Rattle.flow_orders.specs.Orders.{CanMend, CanMendTimes, CanMendUnused, FlowOrders, HasRoomToBegin}
+use Rattle.key_order.specs.declared.ages.Age.{Age}
 use Rattle.flow_orders.specs.declared.marks.Marks.{Marks}
+use Rattle.flow_orders.specs.declared.marks.Times.{Times}
 
 -- a key comes where there is no pair, and none leaves
 comes : {K : Type 0} (cmp : K → K → Ordering) (es : List (K × ℕ)) (spare : ℕ) (new : Option K) (s : ℕ) → es ≡ [] → 1 ≤ spare → CanReplace cmp es spare None new s
@@ -32,3 +34,16 @@ may_begin o slot new by_key due due_in_emergency unused by_use room =
       unused = comes age_cmp o.unused.pairs o.unused.room new.unused slot unused some;
       kept = λ h. use_room;
     }
+
+-- and so with some of its marks alone
+pub may_begin_times : (o : FlowOrders) (slot : ℕ) (to : Times) → o.by_key.pairs ≡ [] → o.due.pairs ≡ [] → o.due_in_emergency.pairs ≡ [] → o.unused.pairs ≡ [] → o.by_use.pairs ≡ []
+    → HasRoomToBegin o → CanMendTimes o slot (times_in (marks_of None)) to
+may_begin_times o slot to by_key due due_in_emergency unused by_use room =
+    let m = may_begin o slot (record { key = None; due = to.due; due_in_emergency = to.due_in_emergency; unused = to.unused }) by_key due due_in_emergency unused by_use room in
+    record { due = m.due; due_in_emergency = m.due_in_emergency; unused = m.unused; kept = m.kept }
+
+pub may_begin_unused : (o : FlowOrders) (slot : ℕ) (new : Option Age) → o.by_key.pairs ≡ [] → o.due.pairs ≡ [] → o.due_in_emergency.pairs ≡ [] → o.unused.pairs ≡ [] → o.by_use.pairs ≡ []
+    → HasRoomToBegin o → CanMendUnused o slot None new
+may_begin_unused o slot new by_key due due_in_emergency unused by_use room =
+    let m = may_begin o slot (record { key = None; due = None; due_in_emergency = None; unused = new }) by_key due due_in_emergency unused by_use room in
+    record { unused = m.unused; kept = m.kept }

@@ -7,10 +7,9 @@ use Rattle.std.specs.Ordering.{is_eq, is_gt, ordering_reverse}
 use Rattle.std.specs.declared.cmp.Ordering.{Ordering}
 use Rattle.std.specs.declared.cmp.Ordering.TheVariants.{Less, Equal, Greater}
 use Rattle.suri_base.specs.declared.key.Key.{Key}
-use Rattle.suri_base.specs.Keys.{same_key}
 use Rattle.key_order.proofs.Aging.{ages, clock_back, equal_ages, not_above}
 use Rattle.key_order.proofs.Telling.{tells}
-use Rattle.key_order.specs.Ages.{age_cmp, age_of, clock_of}
+use Rattle.key_order.specs.Ages.{age_cmp, clock_of}
 use Rattle.key_order.specs.KeyPlaces.{place_cmp, place_of}
 use Rattle.key_order.specs.declared.ages.Age.{Age}
 use Rattle.key_order.specs.declared.places.KeyPlace.{KeyPlace}
@@ -18,7 +17,7 @@ use Rattle.slot_order.proofs.Index.{first_found, found, no_some}
 use Rattle.slot_order.specs.Index.{IsFound, IsIndex}
 use Rattle.slot_order.specs.Next.{IsNext}
 use Rattle.slot_order.specs.Order.{IsFirst, slot_of}
-use Rattle.flow_orders.specs.Flow.{Before, Held, deadline_of, is_linked, is_unused_held, linked_with}
+use Rattle.flow_orders.specs.Flow.{Held, deadline_of, is_linked, is_unused_held, linked_with}
 use Rattle.flow_orders.specs.Keys.{bears_deadline, bears_key, bears_unused, deadline, last_seen}
 use Rattle.flow_orders.specs.Finding.{comes_after, IsDueAt, IsFirstDue, IsLeastUnused, IsNextDue, IsStep}
 

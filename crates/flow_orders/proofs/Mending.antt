@@ -4,7 +4,6 @@ use Rattle.std.proofs.lemmas.Bool.Decides.{nat_tests}
 use Rattle.std.specs.Ordering.{is_eq, nat_cmp, ordering_reverse}
 use Rattle.std.specs.declared.cmp.Ordering.{Ordering}
 use Rattle.std.specs.declared.cmp.Ordering.TheVariants.{Less, Equal, Greater}
-use Rattle.suri_base.specs.Keys.{same_key}
 use Rattle.key_order.proofs.Aging.{ages, equal_ages}
 use Rattle.key_order.proofs.Telling.{places, tells}
 use Rattle.key_order.specs.Ages.{age_cmp}
@@ -13,11 +12,12 @@ use Rattle.key_order.specs.declared.ages.Age.{Age}
 use Rattle.key_order.specs.declared.places.KeyPlace.{KeyPlace}
 use Rattle.slot_order.proofs.Index.{can_replace, grown, kept, mended, no_some, replaced_in, some_same}
 use Rattle.slot_order.specs.Index.{bears_by, borne, IsIndex, key_in}
-use Rattle.slot_order.specs.Order.{is_key, slot_of}
-use Rattle.flow_orders.specs.Flow.{Held, has, is_linked, is_unused_held, linked_with}
-use Rattle.flow_orders.specs.Keys.{bears_deadline, bears_key, bears_unused, bears_use, deadline, is_linked_held, key_of, last_seen, marks_of}
-use Rattle.flow_orders.specs.Orders.{AreMarks, AreOrders, CanMend, FlowOrders, HasRoomToMend, IsOwn}
+use Rattle.slot_order.specs.Order.{Pairs, added, is_key, slot_of}
+use Rattle.flow_orders.specs.Flow.{Held, is_linked, is_unused_held}
+use Rattle.flow_orders.specs.Keys.{bears_deadline, bears_key, bears_unused, bears_use, but_unused, deadline, is_linked_held, key_of, last_seen, marks_of, times_in}
+use Rattle.flow_orders.specs.Orders.{AreMarks, AreOrders, CanMend, CanMendTimes, CanMendUnused, FlowOrders, HasRoomForTimes, HasRoomToMend, IsOwn, SameButUnused}
 use Rattle.flow_orders.specs.declared.marks.Marks.{Marks}
+use Rattle.flow_orders.specs.declared.marks.Times.{Times}
 use Rattle.flow_orders.proofs.Finding.{both, self}
 
 equal_is : (o : Ordering) → is_eq o ≡ true → o ≡ Equal
@@ -66,6 +66,49 @@ can_mend slots o i old new h at w r = record {
   kept = r.kept;
 }
 
+-- what `mend_times` asks
+pub can_mend_times : (slots : List (Option Held)) (o : FlowOrders) (i : ℕ) (old new : Option Held) → AreMarks slots o → slice_get slots i ≡ Some old → IsOwn slots i new
+    → HasRoomForTimes o (times_in (marks_of old)) (times_in (marks_of new)) → CanMendTimes o i (times_in (marks_of old)) (times_in (marks_of new))
+can_mend_times slots o i old new h at w r = record {
+  due = can_replace age_cmp (self ages) is_linked_held (deadline false) slots o.due.pairs o.due.room i old new h.due at (own_age slots i new w is_linked_held (deadline false) (λ f. refl) o.due.pairs h.due) r.due;
+  due_in_emergency = can_replace age_cmp (self ages) is_linked_held (deadline true) slots o.due_in_emergency.pairs o.due_in_emergency.room i old new h.due_in_emergency at
+      (own_age slots i new w is_linked_held (deadline true) (λ f. refl) o.due_in_emergency.pairs h.due_in_emergency) r.due_in_emergency;
+  unused = can_replace age_cmp (self ages) is_unused_held last_seen slots o.unused.pairs o.unused.room i old new h.unused at (own_age slots i new w is_unused_held last_seen (λ f. refl) o.unused.pairs h.unused) r.unused;
+  kept = r.kept;
+}
+
+-- for a new key there has to be room for one
+pub added_one : {K : Type 0} (cmp : K → K → Ordering) (old new : Option K) → added cmp old new ≤ 1
+added_one cmp old None = omega arith
+added_one cmp old (Some k) = by (is_key cmp old k)
+  where
+    by : (b : Bool) → cond b 0 1 ≤ 1
+    by true = omega arith
+    by false = omega arith
+
+-- and what `mend_unused` asks
+pub can_mend_unused : (slots : List (Option Held)) (o : FlowOrders) (i : ℕ) (old new : Option Held) → AreMarks slots o → slice_get slots i ≡ Some old → IsOwn slots i new
+    → length o.by_use.pairs < o.unused.room → CanMendUnused o i (marks_of old).unused (marks_of new).unused
+can_mend_unused slots o i old new h at w room = record {
+  unused = can_replace age_cmp (self ages) is_unused_held last_seen slots o.unused.pairs o.unused.room i old new h.unused at (own_age slots i new w is_unused_held last_seen (λ f. refl) o.unused.pairs h.unused)
+      (let one = added_one age_cmp (marks_of old).unused (marks_of new).unused in omega (arith, one, room));
+  kept = λ a. room;
+}
+
+-- an order stays that of the slots where what stands in one of them has the same key afterwards
+key_borne : {K : Type 0} (cmp : K → K → Ordering) (test : Held → Bool) (key : Held → K) (o : Option Held) (q : K) → borne (bears_by cmp test key) o q ≡ is_key cmp (key_in test key o) q
+key_borne cmp test key None q = refl
+key_borne {K} cmp test key (Some x) q = by (test x)
+  where
+    by : (b : Bool) → (b && is_eq (cmp (key x) q)) ≡ is_key cmp (cond b (Some (key x)) None) q
+    by true = refl
+    by false = refl
+
+pub kept_in : (slots : List (Option Held)) (i : ℕ) (old new : Option Held) → slice_get slots i ≡ Some old → {K : Type 0} (cmp : K → K → Ordering) (test : Held → Bool) (key : Held → K) (ps : List (K × ℕ))
+    → IsIndex cmp (bears_by cmp test key) slots ps → key_in test key new ≡ key_in test key old → IsIndex cmp (bears_by cmp test key) (slice_set slots i new) ps
+kept_in slots i old new at {K} cmp test key ps h e = kept cmp (bears_by cmp test key) slots ps i old new h at
+    (λ k. key_borne cmp test key new k ∙ ap (λ (m : Option K). is_key cmp m k) e ∙ sym (key_borne cmp test key old k))
+
 abbrev Replaced : {K : Type 0} → (K → K → Ordering) → ℕ → Option K → Option K → List (K × ℕ) → List (K × ℕ) → Type 0
 Replaced {K} cmp i old new ps qs = (q : K) → slot_of cmp qs q ≡ cond (is_key cmp new q) (Some i) (cond (is_key cmp old q) None (slot_of cmp ps q))
 
@@ -85,6 +128,39 @@ marks_mended slots o p i old new a b h at d e w k u v x = record {
       (subst (λ (m : Marks). Replaced age_cmp i a.due_in_emergency m.due_in_emergency o.due_in_emergency.pairs p.due_in_emergency.pairs) e v));
   unused = replaced_in age_cmp (self ages) is_unused_held last_seen slots o.unused.pairs p.unused.pairs i old new h.unused at (own_age slots i new w is_unused_held last_seen (λ f. refl) o.unused.pairs h.unused)
       (subst (λ (m : Marks). Replaced age_cmp i m.unused (marks_of new).unused o.unused.pairs p.unused.pairs) d (subst (λ (m : Marks). Replaced age_cmp i a.unused m.unused o.unused.pairs p.unused.pairs) e x));
+}
+
+-- so where the place of the key stays
+pub times_mended : (slots : List (Option Held)) (o p : FlowOrders) (i : ℕ) (old new : Option Held) (a b : Times) → AreMarks slots o → slice_get slots i ≡ Some old → (marks_of new).key ≡ (marks_of old).key
+    → a ≡ times_in (marks_of old) → b ≡ times_in (marks_of new) → IsOwn slots i new → p.by_key ≡ o.by_key → Replaced age_cmp i a.due b.due o.due.pairs p.due.pairs
+    → Replaced age_cmp i a.due_in_emergency b.due_in_emergency o.due_in_emergency.pairs p.due_in_emergency.pairs → Replaced age_cmp i a.unused b.unused o.unused.pairs p.unused.pairs
+    → AreMarks (slice_set slots i new) p
+times_mended slots o p i old new a b h at key d e w same u v x = record {
+  by_key = subst (λ (s : Pairs KeyPlace). IsIndex place_cmp bears_key (slice_set slots i new) s.pairs) (sym same) (kept_in slots i old new at place_cmp is_linked_held key_of o.by_key.pairs h.by_key key);
+  due = replaced_in age_cmp (self ages) is_linked_held (deadline false) slots o.due.pairs p.due.pairs i old new h.due at (own_age slots i new w is_linked_held (deadline false) (λ f. refl) o.due.pairs h.due)
+      (told (λ (m n : Times). Replaced age_cmp i m.due n.due o.due.pairs p.due.pairs) u);
+  due_in_emergency = replaced_in age_cmp (self ages) is_linked_held (deadline true) slots o.due_in_emergency.pairs p.due_in_emergency.pairs i old new h.due_in_emergency at
+      (own_age slots i new w is_linked_held (deadline true) (λ f. refl) o.due_in_emergency.pairs h.due_in_emergency)
+      (told (λ (m n : Times). Replaced age_cmp i m.due_in_emergency n.due_in_emergency o.due_in_emergency.pairs p.due_in_emergency.pairs) v);
+  unused = replaced_in age_cmp (self ages) is_unused_held last_seen slots o.unused.pairs p.unused.pairs i old new h.unused at (own_age slots i new w is_unused_held last_seen (λ f. refl) o.unused.pairs h.unused)
+      (told (λ (m n : Times). Replaced age_cmp i m.unused n.unused o.unused.pairs p.unused.pairs) x);
+}
+  where
+    told : (P : Times → Times → Type 0) → P a b → P (times_in (marks_of old)) (times_in (marks_of new))
+    told P k = subst (λ (m : Times). P m (times_in (marks_of new))) d (subst (λ (n : Times). P a n) e k)
+
+-- and where all stay but the place among the unused
+pub unused_mended : (slots : List (Option Held)) (o p : FlowOrders) (i : ℕ) (old new : Option Held) (a b : Option Age) → AreMarks slots o → slice_get slots i ≡ Some old → but_unused (marks_of new) ≡ but_unused (marks_of old)
+    → a ≡ (marks_of old).unused → b ≡ (marks_of new).unused → IsOwn slots i new → SameButUnused o p → Replaced age_cmp i a b o.unused.pairs p.unused.pairs → AreMarks (slice_set slots i new) p
+unused_mended slots o p i old new a b h at alike d e w same x = record {
+  by_key = subst (λ (s : Pairs KeyPlace). IsIndex place_cmp bears_key (slice_set slots i new) s.pairs) (sym same.by_key)
+      (kept_in slots i old new at place_cmp is_linked_held key_of o.by_key.pairs h.by_key (ap (λ (m : Marks). m.key) alike));
+  due = subst (λ (s : Pairs Age). IsIndex age_cmp (bears_deadline false) (slice_set slots i new) s.pairs) (sym same.due)
+      (kept_in slots i old new at age_cmp is_linked_held (deadline false) o.due.pairs h.due (ap (λ (m : Marks). m.due) alike));
+  due_in_emergency = subst (λ (s : Pairs Age). IsIndex age_cmp (bears_deadline true) (slice_set slots i new) s.pairs) (sym same.due_in_emergency)
+      (kept_in slots i old new at age_cmp is_linked_held (deadline true) o.due_in_emergency.pairs h.due_in_emergency (ap (λ (m : Marks). m.due_in_emergency) alike));
+  unused = replaced_in age_cmp (self ages) is_unused_held last_seen slots o.unused.pairs p.unused.pairs i old new h.unused at (own_age slots i new w is_unused_held last_seen (λ f. refl) o.unused.pairs h.unused)
+      (subst (λ (m : Option Age). Replaced age_cmp i m (marks_of new).unused o.unused.pairs p.unused.pairs) d (subst (λ (m : Option Age). Replaced age_cmp i a m o.unused.pairs p.unused.pairs) e x));
 }
 
 -- the uses

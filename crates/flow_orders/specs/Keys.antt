@@ -1,5 +1,5 @@
 -- By what the flows of a bucket are ordered.
-use Rattle.std.specs.Prelude.{ℕ, Bool, true, false, Option}
+use Rattle.std.specs.Prelude.{ℕ, Bool, true, false, Option, None}
 use Rattle.key_order.specs.declared.ages.Age.{Age}
 use Rattle.key_order.specs.declared.places.KeyPlace.{KeyPlace}
 use Rattle.key_order.specs.Ages.{age_cmp, age_of}
@@ -7,6 +7,7 @@ use Rattle.key_order.specs.KeyPlaces.{place_cmp, place_of}
 use Rattle.slot_order.specs.Index.{bears_by, key_in}
 use Rattle.flow_orders.specs.Flow.{Held, deadline_of, has, is_linked, is_unused_held}
 use Rattle.flow_orders.specs.declared.marks.Marks.{Marks}
+use Rattle.flow_orders.specs.declared.marks.Times.{Times}
 
 abbrev pub is_linked_held : Held → Bool
 is_linked_held f = is_linked f.place
@@ -41,3 +42,11 @@ marks_of o = record {
   due_in_emergency = key_in is_linked_held (deadline true) o;
   unused = key_in is_unused_held last_seen o;
 }
+
+-- those of these that packets change
+abbrev pub times_in : Marks → Times
+times_in m = record { due = m.due; due_in_emergency = m.due_in_emergency; unused = m.unused }
+
+-- all but the place among the unused
+abbrev pub but_unused : Marks → Marks
+but_unused m = record m { unused = None }

@@ -1,5 +1,5 @@
 -- Five orders beside slots of flows.
-use Rattle.std.specs.Prelude.{◌≡◌, ℕ, ◌+◌, ◌<◌, ◌≤◌, Bool, true, false, List, length, Option, Some, slice_get}
+use Rattle.std.specs.Prelude.{◌≡◌, ℕ, ◌+◌, ◌<◌, ◌≤◌, true, false, List, length, Option, Some, slice_get}
 use Rattle.std.specs.Ordering.{nat_cmp}
 use Rattle.key_order.specs.declared.ages.Age.{Age}
 use Rattle.key_order.specs.declared.places.KeyPlace.{KeyPlace}
@@ -7,9 +7,10 @@ use Rattle.key_order.specs.Ages.{age_cmp}
 use Rattle.key_order.specs.KeyPlaces.{place_cmp}
 use Rattle.slot_order.specs.Index.{IsIndex}
 use Rattle.slot_order.specs.Order.{added, CanReplace, Pairs}
-use Rattle.flow_orders.specs.Flow.{Held, has, is_linked, linked_with}
+use Rattle.flow_orders.specs.Flow.{Held, is_linked, linked_with}
 use Rattle.flow_orders.specs.Keys.{bears_deadline, bears_key, bears_unused, bears_use}
 use Rattle.flow_orders.specs.declared.marks.Marks.{Marks}
+use Rattle.flow_orders.specs.declared.marks.Times.{Times}
 
 pub record FlowOrders : Type 0 where
   pub by_key : Pairs KeyPlace
@@ -43,6 +44,18 @@ pub record CanMend (o : FlowOrders) (slot : ℕ) (old new : Marks) : Type 0 wher
   pub unused : CanReplace age_cmp o.unused.pairs o.unused.room old.unused new.unused slot
   pub kept : 0 < added age_cmp old.unused new.unused → length o.by_use.pairs < o.unused.room
 
+-- only those may change that packets change
+pub record CanMendTimes (o : FlowOrders) (slot : ℕ) (from to : Times) : Type 0 where
+  pub due : CanReplace age_cmp o.due.pairs o.due.room from.due to.due slot
+  pub due_in_emergency : CanReplace age_cmp o.due_in_emergency.pairs o.due_in_emergency.room from.due_in_emergency to.due_in_emergency slot
+  pub unused : CanReplace age_cmp o.unused.pairs o.unused.room from.unused to.unused slot
+  pub kept : 0 < added age_cmp from.unused to.unused → length o.by_use.pairs < o.unused.room
+
+-- only the place among the unused may change
+pub record CanMendUnused (o : FlowOrders) (slot : ℕ) (old new : Option Age) : Type 0 where
+  pub unused : CanReplace age_cmp o.unused.pairs o.unused.room old new slot
+  pub kept : 0 < added age_cmp old new → length o.by_use.pairs < o.unused.room
+
 -- room for a change of marks
 pub record HasRoomToMend (o : FlowOrders) (old new : Marks) : Type 0 where
   pub by_key : added place_cmp old.key new.key ≤ o.by_key.room
@@ -50,6 +63,13 @@ pub record HasRoomToMend (o : FlowOrders) (old new : Marks) : Type 0 where
   pub due_in_emergency : added age_cmp old.due_in_emergency new.due_in_emergency ≤ o.due_in_emergency.room
   pub unused : added age_cmp old.unused new.unused ≤ o.unused.room
   pub kept : 0 < added age_cmp old.unused new.unused → length o.by_use.pairs < o.unused.room
+
+-- and for a change of those that packets change
+pub record HasRoomForTimes (o : FlowOrders) (from to : Times) : Type 0 where
+  pub due : added age_cmp from.due to.due ≤ o.due.room
+  pub due_in_emergency : added age_cmp from.due_in_emergency to.due_in_emergency ≤ o.due_in_emergency.room
+  pub unused : added age_cmp from.unused to.unused ≤ o.unused.room
+  pub kept : 0 < added age_cmp from.unused to.unused → length o.by_use.pairs < o.unused.room
 
 pub record SamePairs (o p : FlowOrders) : Type 0 where
   pub by_key : p.by_key.pairs ≡ o.by_key.pairs
@@ -63,6 +83,11 @@ pub record SameMarks (o p : FlowOrders) : Type 0 where
   pub due : p.due ≡ o.due
   pub due_in_emergency : p.due_in_emergency ≡ o.due_in_emergency
   pub unused : p.unused ≡ o.unused
+
+pub record SameButUnused (o p : FlowOrders) : Type 0 where
+  pub by_key : p.by_key ≡ o.by_key
+  pub due : p.due ≡ o.due
+  pub due_in_emergency : p.due_in_emergency ≡ o.due_in_emergency
 
 -- there is room as before
 pub record IsRoomy (o p : FlowOrders) : Type 0 where
@@ -78,6 +103,12 @@ pub record IsRoomKept (old new : Marks) (o p : FlowOrders) : Type 0 where
   pub due : o.due.room ≤ p.due.room + added age_cmp old.due new.due
   pub due_in_emergency : o.due_in_emergency.room ≤ p.due_in_emergency.room + added age_cmp old.due_in_emergency new.due_in_emergency
   pub unused : o.unused.room ≤ p.unused.room + added age_cmp old.unused new.unused
+
+-- and after a change of those that packets change
+pub record AreTimesRoomy (from to : Times) (o p : FlowOrders) : Type 0 where
+  pub due : o.due.room ≤ p.due.room + added age_cmp from.due to.due
+  pub due_in_emergency : o.due_in_emergency.room ≤ p.due_in_emergency.room + added age_cmp from.due_in_emergency to.due_in_emergency
+  pub unused : o.unused.room ≤ p.unused.room + added age_cmp from.unused to.unused
 
 -- room for a use more, and for new deadlines
 pub record HasRoomToJoin (o : FlowOrders) : Type 0 where

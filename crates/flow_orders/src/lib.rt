@@ -8,6 +8,6 @@ mod orders;
 mod tests;
 mod walks;
 
-pub use laws::{grows_slots, keeps_uses, may_mend};
-pub use marks::Marks;
+pub use laws::{grows_slots, keeps_uses, may_mend, may_mend_times, may_mend_unused};
+pub use marks::{Marks, Times};
 pub use orders::Orders;

@@ -1,7 +1,7 @@
 //! By what a flow stands in the orders.
 ghost use Rattle.std.specs.Prelude.{◌≡◌, ◌+◌, ◌<◌, ◌^◌, ℕ, false, true, Some};
 ghost use Rattle.flow_orders.specs.Flow.{Held, deadline_of, is_linked, is_unused_held};
-ghost use Rattle.flow_orders.specs.Keys.{marks_of};
+ghost use Rattle.flow_orders.specs.Keys.{marks_of, times_in};
 
 use bucket_flow::Flow;
 use key_order::{Age, KeyPlace, place};
@@ -51,6 +51,17 @@ impl Marks {
         )
     }
 
+    /// Of those of a flow only its place among the unused.
+    pub fn unused_of(flow: &Flow) -> Option<Age>
+        ensures { result ≡ (marks_of (Some flow.now)).unused }
+    {
+        if flow.is_unused() {
+            Some(Age::new(flow.last_clock(), flow.run()))
+        } else {
+            None
+        }
+    }
+
     /// Those of a linked flow, from its key, its run, the clock of its last packet and its two deadlines.
     pub fn linked(
         key: &Key,
@@ -72,6 +83,38 @@ impl Marks {
             } else {
                 None
             },
+        }
+    }
+}
+
+/// Those marks of a flow that its packets change: all but the place of its key.
+#[derive(Clone, Copy, Debug, PartialEq, Eq)]
+pub struct Times {
+    /// The last clock at which it has not expired by the normal timeouts, while it is linked.
+    pub due: Option<Age>,
+    /// The same by the timeouts of an emergency.
+    pub due_in_emergency: Option<Age>,
+    /// The clock of its last packet, while it is linked and no frame uses it.
+    pub unused: Option<Age>,
+}
+
+impl Times {
+    /// Those of a flow.
+    pub fn of(flow: &Flow) -> Times
+        ensures { result ≡ times_in (marks_of (Some flow.now)) }
+    {
+        if !flow.is_linked() {
+            return Times {
+                due: None,
+                due_in_emergency: None,
+                unused: None,
+            };
+        }
+        let run = flow.run();
+        Times {
+            due: Some(Age::new(flow.deadline(false), run)),
+            due_in_emergency: Some(Age::new(flow.deadline(true), run)),
+            unused: Marks::unused_of(flow),
         }
     }
 }

@@ -2,13 +2,14 @@
 ghost use Rattle.std.specs.Prelude.{◌≡◌, ◌<◌, ◌≤◌, ◌+◌, ◌==◌, ◌&&◌, ◌||◌, not, ℕ, [], length, List, Option, None, Some, IfSome, OnOk, IsOk, slice_get, slice_set};
 ghost use Rattle.std.specs.Ordering.{nat_cmp};
 ghost use Rattle.slot_order.specs.Index.{borne, IsFound, IsIndex};
-ghost use Rattle.slot_order.specs.Order.{slot_of};
+ghost use Rattle.slot_order.specs.Order.{added, slot_of};
 ghost use Rattle.flow_orders.specs.Flow.{Held, linked_with};
-ghost use Rattle.flow_orders.specs.Keys.{bears_use, marks_of};
-ghost use Rattle.flow_orders.specs.Orders.{AreMarks, AreOrders, CanMend, HasRoomToBegin, HasRoomToJoin, IsOwn, IsRoomKept, IsRoomy, SameMarks, SamePairs};
+ghost use Rattle.key_order.specs.Ages.{age_cmp};
+ghost use Rattle.flow_orders.specs.Keys.{bears_use, but_unused, marks_of, times_in};
+ghost use Rattle.flow_orders.specs.Orders.{AreMarks, AreOrders, AreTimesRoomy, CanMend, CanMendTimes, CanMendUnused, HasRoomToBegin, HasRoomToJoin, IsOwn, IsRoomKept, IsRoomy, SameButUnused, SameMarks, SamePairs};
 ghost use Rattle.flow_orders.specs.Finding.{IsFirstDue, IsLeastUnused, IsNextDue};
 
-use crate::marks::Marks;
+use crate::marks::{Marks, Times};
 use crate::walks::{least, next_before};
 use key_order::{Age, KeyPlace, place};
 use slot_order::Order;
@@ -155,6 +156,33 @@ impl Orders {
         self.due_in_emergency
             .replace(old.due_in_emergency, new.due_in_emergency, slot);
         self.unused.replace(old.unused, new.unused, slot);
+    }
+
+    /// What stands in a slot keeps the place of its key, as where a packet joins a flow. It takes no memory.
+    pub fn mend_times(&mut self, slot: u32, from: Times, to: Times)
+        requires { CanMendTimes self.old slot from to }
+        ensures marks { (slots : List (Option Held)) (o n : Option Held) → AreMarks slots self.old → slice_get slots slot ≡ Some o → (marks_of n).key ≡ (marks_of o).key
+            → from ≡ times_in (marks_of o) → to ≡ times_in (marks_of n) → IsOwn slots slot n → AreMarks (slice_set slots slot n) self.new }
+        ensures keys { self.new.by_key ≡ self.old.by_key }
+        ensures uses { self.new.by_use ≡ self.old.by_use }
+        ensures room { AreTimesRoomy from to self.old self.new }
+    {
+        self.due.replace(from.due, to.due, slot);
+        self.due_in_emergency
+            .replace(from.due_in_emergency, to.due_in_emergency, slot);
+        self.unused.replace(from.unused, to.unused, slot);
+    }
+
+    /// What stands in a slot keeps all marks but its place among the unused, as where a use of a flow ends. It takes no memory.
+    pub fn mend_unused(&mut self, slot: u32, old: Option<Age>, new: Option<Age>)
+        requires { CanMendUnused self.old slot old new }
+        ensures marks { (slots : List (Option Held)) (o n : Option Held) → AreMarks slots self.old → slice_get slots slot ≡ Some o → but_unused (marks_of n) ≡ but_unused (marks_of o)
+            → old ≡ (marks_of o).unused → new ≡ (marks_of n).unused → IsOwn slots slot n → AreMarks (slice_set slots slot n) self.new }
+        ensures others { SameButUnused self.old self.new }
+        ensures uses { self.new.by_use ≡ self.old.by_use }
+        ensures room { self.old.unused.room ≤ self.new.unused.room + added age_cmp old new }
+    {
+        self.unused.replace(old, new, slot);
     }
 
     /// A frame begins to use the flow in a slot. It takes no memory.

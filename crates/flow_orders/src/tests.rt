@@ -1,5 +1,5 @@
 //! A flow begins, and is found in each order.
-use crate::{Marks, Orders};
+use crate::{Marks, Orders, Times};
 use key_order::Age;
 use std::test::Fail;
 use suri_base::{End, Key, Vlans};
@@ -44,6 +44,36 @@ fn finds_a_flow_in_each_order(rt: HostRuntime) -> Result<(), Fail> {
             .next_due(Some(Age::new(due, 3)), due + 1, false)
             .is_none()
     );
+    Ok(())
+}
+
+#[test]
+fn finds_a_flow_by_its_times(rt: HostRuntime) -> Result<(), Fail> {
+    let mut orders = Orders::new(rt.alloc());
+    orders.reserve_begin()?;
+    let none = Times {
+        due: None,
+        due_in_emergency: None,
+        unused: None,
+    };
+    let times = Times {
+        due: Some(Age::new(39_000_000_000, 3)),
+        due_in_emergency: Some(Age::new(19_000_000_000, 3)),
+        unused: Some(Age::new(9_000_000_000, 3)),
+    };
+    orders.mend_times(7, none, times);
+    assert!(rt; orders.first_due(false) == Some((Age::new(39_000_000_000, 3), 7)));
+    assert!(rt; orders.first_due(true) == Some((Age::new(19_000_000_000, 3), 7)));
+    assert!(rt; orders.victim() == Some(7) && orders.linked_at(&key()).is_none());
+    Ok(())
+}
+
+#[test]
+fn finds_a_flow_that_became_unused(rt: HostRuntime) -> Result<(), Fail> {
+    let mut orders = Orders::new(rt.alloc());
+    orders.reserve_begin()?;
+    orders.mend_unused(7, None, Some(Age::new(9_000_000_000, 3)));
+    assert!(rt; orders.victim() == Some(7) && orders.first_due(false).is_none());
     Ok(())
 }
 

@@ -15,13 +15,15 @@ use Rattle.bucket_rules.specs.Row.{Place, has, is_linked, is_none_of}
 use Rattle.key_order.proofs.Aging.{ages}
 use Rattle.key_order.proofs.Telling.{places}
 use Rattle.key_order.specs.Ages.{age_cmp, age_of}
+use Rattle.key_order.specs.declared.ages.Age.{Age}
 use Rattle.key_order.specs.KeyPlaces.{place_cmp, place_of}
-use Rattle.slot_order.specs.Order.{Pairs, added, is_key}
+use Rattle.slot_order.specs.Order.{Pairs, added}
 use Rattle.bucket_flow.specs.Held.{Held}
-use Rattle.flow_orders.specs.Keys.{marks_of}
-use Rattle.flow_orders.specs.Orders.{FlowOrders, HasRoomToBegin, HasRoomToJoin, HasRoomToMend, IsRoomKept, IsRoomy, SamePairs}
+use Rattle.flow_orders.specs.Keys.{but_unused, marks_of, times_in}
+use Rattle.flow_orders.specs.Orders.{FlowOrders, HasRoomForTimes, HasRoomToBegin, HasRoomToJoin, HasRoomToMend, IsRoomy, SamePairs}
 use Rattle.flow_orders.specs.declared.marks.Marks.{Marks}
 use Rattle.flow_orders.proofs.Finding.{self}
+use Rattle.flow_orders.proofs.Mending.{added_one}
 use Rattle.flow_table.specs.Slots.{AreKin, spare_joins}
 
 -- uses that have the same frames are none together
@@ -61,24 +63,19 @@ kin_by f g none k =
     ∙ ap (λ (t : State). marks_by f.place none f.obj.sums t g.run) k.state
     ∙ ap (λ (r : ℕ). marks_by f.place none f.obj.sums f.obj.state r) k.run
 
+pub kin_alike : (f g : Held) → AreKin f g → but_unused (marks_of (Some g)) ≡ but_unused (marks_of (Some f))
+kin_alike f g k = ap but_unused (kin_by f g true k)
+
 pub kin_marks : (f g : Held) → AreKin f g → is_none_of g.uses ≡ is_none_of f.uses → marks_of (Some g) ≡ marks_of (Some f)
 kin_marks f g k n = ap (λ (b : Bool). marks_by g.place b g.obj.sums g.obj.state g.run) n ∙ kin_by f g (is_none_of f.uses) k
 
--- for a key that stays no room is wanted, and for a new one room for one
+-- for a key that stays no room is wanted
 added_self : {K : Type 0} (cmp : K → K → Ordering) → ((k : K) → is_eq (cmp k k) ≡ true) → (old new : Option K) → new ≡ old → added cmp old new ≡ 0
 added_self {K} cmp same old new e = ap (λ (n : Option K). added cmp old n) e ∙ by old
   where
     by : (o : Option K) → added cmp o o ≡ 0
     by None = refl
     by (Some k) = ap (λ (b : Bool). cond b 0 1) (same k)
-
-added_one : {K : Type 0} (cmp : K → K → Ordering) (old new : Option K) → added cmp old new ≤ 1
-added_one cmp old None = omega arith
-added_one cmp old (Some k) = by (is_key cmp old k)
-  where
-    by : (b : Bool) → cond b 0 1 ≤ 1
-    by true = omega arith
-    by false = omega arith
 
 added_none : {K : Type 0} (cmp : K → K → Ordering) (old new : Option K) → new ≡ None → added cmp old new ≡ 0
 added_none {K} cmp old new e = ap (λ (n : Option K). added cmp old n) e
@@ -103,31 +100,20 @@ room_to_stay o old new e =
     let u = added_self age_cmp (self ages) old.unused new.unused (ap (λ (m : Marks). m.unused) e) in
     record { by_key = omega (arith, k); due = omega (arith, d); due_in_emergency = omega (arith, x); unused = omega (arith, u); kept = λ w. absurd (omega (arith, w, u)) }
 
--- a use ends
-pub room_to_close : (o : FlowOrders) (f g : Held) → AreKin f g → length o.by_use.pairs < o.unused.room → HasRoomToMend o (marks_of (Some f)) (marks_of (Some g))
-room_to_close o f g a room =
-    let e = kin_by f g true a in
-    let old = marks_of (Some f) in
-    let new = marks_of (Some g) in
-    let k = added_self place_cmp (self places) old.key new.key (ap (λ (m : Marks). m.key) e) in
-    let d = added_self age_cmp (self ages) old.due new.due (ap (λ (m : Marks). m.due) e) in
-    let x = added_self age_cmp (self ages) old.due_in_emergency new.due_in_emergency (ap (λ (m : Marks). m.due_in_emergency) e) in
-    let u = added_one age_cmp old.unused new.unused in
-    record { by_key = omega (arith, k); due = omega (arith, d); due_in_emergency = omega (arith, x); unused = omega (arith, u, room); kept = λ w. room }
-
 -- a packet joins
-pub room_to_join : (o : FlowOrders) (f g : Held) → HasRoomToJoin o → g.place ≡ f.place → g.obj.sums.key ≡ f.obj.sums.key → is_none_of g.uses ≡ false → HasRoomToMend o (marks_of (Some f)) (marks_of (Some g))
-room_to_join o f g r place key used =
+pub same_key_mark : (f g : Held) → g.place ≡ f.place → g.obj.sums.key ≡ f.obj.sums.key → (marks_of (Some g)).key ≡ (marks_of (Some f)).key
+same_key_mark f g place key = ap (λ (p : Place). cond (is_linked p) (Some (place_of g.obj.sums.key)) None) place ∙ ap (λ (k : Key). cond (is_linked f.place) (Some (place_of k)) None) key
+
+pub room_to_join : (o : FlowOrders) (f g : Held) → HasRoomToJoin o → is_none_of g.uses ≡ false → HasRoomForTimes o (times_in (marks_of (Some f))) (times_in (marks_of (Some g)))
+room_to_join o f g r used =
     let old = marks_of (Some f) in
     let new = marks_of (Some g) in
-    let same : new.key ≡ old.key = ap (λ (p : Place). cond (is_linked p) (Some (place_of g.obj.sums.key)) None) place ∙ ap (λ (k : Key). cond (is_linked f.place) (Some (place_of k)) None) key in
-    let k = added_self place_cmp (self places) old.key new.key same in
     let d = added_one age_cmp old.due new.due in
     let x = added_one age_cmp old.due_in_emergency new.due_in_emergency in
     let u = added_none age_cmp old.unused new.unused (used_mark g used) in
     let rd = r.due in
     let rx = r.due_in_emergency in
-    record { by_key = omega (arith, k); due = omega (arith, d, rd); due_in_emergency = omega (arith, x, rx); unused = omega (arith, u); kept = λ w. absurd (omega (arith, w, u)) }
+    record { due = omega (arith, d, rd); due_in_emergency = omega (arith, x, rx); unused = omega (arith, u); kept = λ w. absurd (omega (arith, w, u)) }
 
 -- a flow begins
 pub room_to_begin : (o : FlowOrders) (g : Held) → HasRoomToBegin o → is_none_of g.uses ≡ false → HasRoomToMend o (marks_of None) (marks_of (Some g))
@@ -165,13 +151,12 @@ joins_kept o p s r =
     omega (arith, a, b, c, d, e)
 
 -- and for the use of the packet that joined or began
-pub use_room : (o p : FlowOrders) (a b : Marks) (g : Held) → HasRoomToJoin o → IsRoomKept a b o p → p.by_use ≡ o.by_use → b ≡ marks_of (Some g) → is_none_of g.uses ≡ false
+pub use_room : (o p : FlowOrders) (a b : Option Age) (g : Held) → HasRoomToJoin o → o.unused.room ≤ p.unused.room + added age_cmp a b → p.by_use ≡ o.by_use → b ≡ (marks_of (Some g)).unused → is_none_of g.uses ≡ false
     → (0 < p.by_use.room) × (length p.by_use.pairs < p.unused.room)
-use_room o p a b g r k e m used =
-    let n = added_none age_cmp a.unused b.unused (ap (λ (x : Marks). x.unused) m ∙ used_mark g used) in
+use_room o p a b g r z e m used =
+    let n = added_none age_cmp a b (m ∙ used_mark g used) in
     let x = r.by_use in
     let y = r.unused in
-    let z = k.unused in
     let room = ap (λ (u : Pairs ℕ). u.room) e in
     let len = ap (λ (u : Pairs ℕ). length u.pairs) e in
     (omega (arith, x, room), omega (arith, n, y, z, len))

@@ -1,53 +1,40 @@
 -- The orders of slots stay theirs, whatever a call makes of one of them.
-use Rattle.std.proofs.Common.{◌≡◌, ℕ, ◌==◌, ◌&&◌, not, Bool, true, false, cond, List, slice_get, slice_set, Option, Some, None, ◌⊎◌, inl, inr, ⊎_elim, refl, sym, ap, subst, ◌∙◌, arith}
+use Rattle.std.proofs.Common.{◌≡◌, ℕ, ◌<◌, ◌==◌, ◌&&◌, not, Bool, true, false, cond, List, length, slice_get, slice_set, Option, Some, None, ◌⊎◌, inl, inr, ⊎_elim, refl, sym, ap, subst, ◌∙◌, arith}
 use Rattle.std.proofs.lemmas.Bool.Decides.{nat_tests}
 use Rattle.std.proofs.lemmas.Option.{none-some, same_Some}
-use Rattle.std.specs.Ordering.{is_eq, nat_cmp}
-use Rattle.std.specs.declared.cmp.Ordering.{Ordering}
+use Rattle.std.specs.Ordering.{nat_cmp}
 use Rattle.suri_base.specs.Keys.{same_key}
 use Rattle.suri_base.proofs.SameKeys.{same_key-is}
 use Rattle.key_order.specs.Ages.{age_cmp}
 use Rattle.key_order.specs.KeyPlaces.{place_cmp}
 use Rattle.key_order.specs.declared.ages.Age.{Age}
 use Rattle.key_order.specs.declared.places.KeyPlace.{KeyPlace}
-use Rattle.slot_order.specs.Index.{IsFound, IsIndex, bears_by, borne, key_in}
-use Rattle.slot_order.specs.Order.{Pairs, is_key, slot_of}
+use Rattle.slot_order.specs.Index.{IsFound, IsIndex, bears_by, borne}
+use Rattle.slot_order.specs.Order.{Pairs, slot_of}
 use Rattle.slot_order.proofs.Index.{kept}
 use Rattle.bucket_rules.specs.Row.{Off, detached, has, is_linked, is_none_of}
 use Rattle.bucket_flow.specs.Held.{Held, is_detached, is_unused_held, leaves, used_by}
 use Rattle.bucket_flow.specs.Flows.{NonePasses, detached_for, stays}
-use Rattle.flow_orders.specs.Keys.{bears_use, deadline, is_linked_held, key_of, last_seen, marks_of}
-use Rattle.flow_orders.specs.Orders.{AreMarks, AreOrders, CanMend, FlowOrders, HasRoomToMend, SameMarks, SamePairs}
+use Rattle.flow_orders.specs.Keys.{bears_use, deadline, is_linked_held, key_of, last_seen, marks_of, times_in}
+use Rattle.flow_orders.specs.Orders.{AreMarks, AreOrders, CanMend, CanMendTimes, CanMendUnused, FlowOrders, HasRoomForTimes, HasRoomToMend, SameMarks, SamePairs}
 use Rattle.flow_orders.specs.Orders as orders
 use Rattle.flow_orders.specs.declared.marks.Marks.{Marks}
+use Rattle.flow_orders.specs.declared.marks.Times.{Times}
 use Rattle.flow_orders.proofs.Finding.{both}
-use Rattle.flow_orders.proofs.Mending.{can_mend, grows}
+use Rattle.flow_orders.proofs.Mending.{can_mend, can_mend_times, can_mend_unused, grows, kept_in}
 use Rattle.flow_table.specs.Slots.{AreKin, AreSound, IsGrown, IsOrderedSlot, IsOwn, filled, parted, rank}
 use Rattle.flow_table.proofs.Marked.{kin_marks, none_has, none_same, room_to_leave, room_to_stay}
 use Rattle.flow_table.proofs.Slots.{get_rank}
 use Rattle.flow_table.proofs.Sound.{IsLess, sound_cut, sound_set}
 
 -- what stands in a slot has the same marks afterwards
-key_borne : {K : Type 0} (cmp : K → K → Ordering) (test : Held → Bool) (key : Held → K) (o : Option Held) (q : K) → borne (bears_by cmp test key) o q ≡ is_key cmp (key_in test key o) q
-key_borne cmp test key None q = refl
-key_borne {K} cmp test key (Some x) q = by (test x)
-  where
-    by : (b : Bool) → (b && is_eq (cmp (key x) q)) ≡ is_key cmp (cond b (Some (key x)) None) q
-    by true = refl
-    by false = refl
-
 module _ (slots : List (Option Held)) (i : ℕ) (old new : Option Held) (at : slice_get slots i ≡ Some old) where
-  kept_in : {K : Type 0} (cmp : K → K → Ordering) (test : Held → Bool) (key : Held → K) (ps : List (K × ℕ)) → IsIndex cmp (bears_by cmp test key) slots ps → key_in test key new ≡ key_in test key old
-      → IsIndex cmp (bears_by cmp test key) (slice_set slots i new) ps
-  kept_in {K} cmp test key ps h e = kept cmp (bears_by cmp test key) slots ps i old new h at
-      (λ k. key_borne cmp test key new k ∙ ap (λ (m : Option K). is_key cmp m k) e ∙ sym (key_borne cmp test key old k))
-
   pub kept_marks : (o : FlowOrders) → AreMarks slots o → marks_of new ≡ marks_of old → AreMarks (slice_set slots i new) o
   kept_marks o h e = record {
-    by_key = kept_in place_cmp is_linked_held key_of o.by_key.pairs h.by_key (ap (λ (m : Marks). m.key) e);
-    due = kept_in age_cmp is_linked_held (deadline false) o.due.pairs h.due (ap (λ (m : Marks). m.due) e);
-    due_in_emergency = kept_in age_cmp is_linked_held (deadline true) o.due_in_emergency.pairs h.due_in_emergency (ap (λ (m : Marks). m.due_in_emergency) e);
-    unused = kept_in age_cmp is_unused_held last_seen o.unused.pairs h.unused (ap (λ (m : Marks). m.unused) e);
+    by_key = kept_in slots i old new at place_cmp is_linked_held key_of o.by_key.pairs h.by_key (ap (λ (m : Marks). m.key) e);
+    due = kept_in slots i old new at age_cmp is_linked_held (deadline false) o.due.pairs h.due (ap (λ (m : Marks). m.due) e);
+    due_in_emergency = kept_in slots i old new at age_cmp is_linked_held (deadline true) o.due_in_emergency.pairs h.due_in_emergency (ap (λ (m : Marks). m.due_in_emergency) e);
+    unused = kept_in slots i old new at age_cmp is_unused_held last_seen o.unused.pairs h.unused (ap (λ (m : Marks). m.unused) e);
   }
 
   pub kept_uses : (o : FlowOrders) → IsIndex nat_cmp bears_use slots o.by_use.pairs → ((u : ℕ) → borne bears_use new u ≡ borne bears_use old u) → IsIndex nat_cmp bears_use (slice_set slots i new) o.by_use.pairs
@@ -92,6 +79,18 @@ pub may_mend : (slots : List (Option Held)) (o : FlowOrders) (i : ℕ) (old new 
     → HasRoomToMend o (marks_of old) (marks_of new) → CanMend o i a b
 may_mend slots o i old new a b h at d e w r =
     subst (λ (m : Marks). CanMend o i m b) (sym d) (subst (λ (m : Marks). CanMend o i (marks_of old) m) (sym e) (can_mend slots o i old new h at w r))
+
+-- or only those that packets change
+pub may_mend_times : (slots : List (Option Held)) (o : FlowOrders) (i : ℕ) (old new : Option Held) (a b : Times) → AreMarks slots o → slice_get slots i ≡ Some old → a ≡ times_in (marks_of old) → b ≡ times_in (marks_of new) → orders.IsOwn slots i new
+    → HasRoomForTimes o (times_in (marks_of old)) (times_in (marks_of new)) → CanMendTimes o i a b
+may_mend_times slots o i old new a b h at d e w r =
+    subst (λ (m : Times). CanMendTimes o i m b) (sym d) (subst (λ (m : Times). CanMendTimes o i (times_in (marks_of old)) m) (sym e) (can_mend_times slots o i old new h at w r))
+
+-- or only the place among the unused
+pub may_mend_unused : (slots : List (Option Held)) (o : FlowOrders) (i : ℕ) (old new : Option Held) (a b : Option Age) → AreMarks slots o → slice_get slots i ≡ Some old → a ≡ (marks_of old).unused → b ≡ (marks_of new).unused → orders.IsOwn slots i new
+    → length o.by_use.pairs < o.unused.room → CanMendUnused o i a b
+may_mend_unused slots o i old new a b h at d e w r =
+    subst (λ (m : Option Age). CanMendUnused o i m b) (sym d) (subst (λ (m : Option Age). CanMendUnused o i (marks_of old).unused m) (sym e) (can_mend_unused slots o i old new h at w r))
 
 -- the uses of a slot stay, and its marks were mended
 pub mended_orders : (slots : List (Option Held)) (o p : FlowOrders) (i : ℕ) (old new : Option Held) → AreOrders slots o → slice_get slots i ≡ Some old → ((u : ℕ) → borne bears_use new u ≡ borne bears_use old u)

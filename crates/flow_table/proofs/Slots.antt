@@ -86,6 +86,12 @@ module _ {X : Type 0} where
   rank_all (None ∷ os) = rank_all os
   rank_all (Some x ∷ os) = ap suc (rank_all os)
 
+  -- no more stand in the slots than there are slots
+  pub filled_few : (os : List (Option X)) → length (filled os) ≤ length os
+  filled_few [] = omega arith
+  filled_few (None ∷ os) = let h = filled_few os in omega (arith, h)
+  filled_few (Some x ∷ os) = let h = filled_few os in omega (arith, h)
+
   -- each place is the rank of a slot
   pub slot_at_rank : (os : List (Option X)) (j : ℕ) (x : X) → slice_get (filled os) j ≡ Some x → (i : ℕ) × (slice_get os i ≡ Some (Some x)) × (rank os i ≡ j)
   slot_at_rank [] j x e = cc

@@ -9,7 +9,7 @@ use Rattle.suri_base.specs.declared.facts.Facts.{Facts}
 use Rattle.bucket_rules.specs.Row.{Off, has, is_linked}
 use Rattle.flow_orders.specs.Keys.{marks_of}
 use Rattle.flow_orders.specs.Orders.{AreOrders, FlowOrders}
-use Rattle.flow_orders.specs.declared.marks.Marks.{Marks}
+use Rattle.key_order.specs.declared.ages.Age.{Age}
 use Rattle.bucket_flow.specs.Held.{Held, ended_by, ended_of, leaves, linked_with, used_by}
 use Rattle.bucket_flow.specs.Flows.{AreUsed, IsVictim, NonePasses, find_in, stays}
 
@@ -166,13 +166,13 @@ pub record AreKin (f g : Held) : Type 0 where
   pub sums : g.obj.sums ≡ f.obj.sums
   pub state : g.obj.state ≡ f.obj.state
 
--- the orders are those of sound slots, in one of which stands f; it becomes g when the use of a frame ends, and these are their marks
-pub record IsUseEnded (slots : List (Option Held)) (o : FlowOrders) (at no : ℕ) (f g : Held) (old new : Marks) : Type 0 where
+-- the orders are those of sound slots, in one of which stands f; it becomes g when the use of a frame ends, and these are their places among the unused
+pub record IsUseEnded (slots : List (Option Held)) (o : FlowOrders) (at no : ℕ) (f g : Held) (old new : Option Age) : Type 0 where
   pub here : IsOrderedSlot slots o at (Some f)
   pub kin : AreKin f g
   pub uses : (u : ℕ) → has g.uses u ≡ (has f.uses u && not (u == no))
-  pub was : old ≡ marks_of (Some f)
-  pub now : new ≡ marks_of (Some g)
+  pub was : old ≡ (marks_of (Some f)).unused
+  pub now : new ≡ (marks_of (Some g)).unused
 
 -- what holds of every table
 pub record IsTable (len : ℕ) (slots : List (Option Held)) (o : FlowOrders) : Type 0 where

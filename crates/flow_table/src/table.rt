@@ -35,7 +35,7 @@ use crate::room::{empty_slot, keep, list_empty, reserve_left};
 use crate::sweeps::{drain_slots, sweep_slots};
 use bucket_flow::{Cause, Flow};
 use flow_object::{Ended, FlowObj};
-use flow_orders::{Marks, Orders};
+use flow_orders::{Marks, Orders, Times};
 use flow_uses::Uses;
 use std::alloc::Global;
 use std::marker::Model;
@@ -81,6 +81,13 @@ impl FlowTable {
         ensures { result ≡ length (filled self.now.slots) }
     {
         count_filled(&self.slots)
+    }
+
+    /// How many slots there are, empty ones among them: at least as many as flows. No slot is looked at for it.
+    pub fn slot_count(&self) -> usize
+        ensures { length (filled self.now.slots) ≤ result }
+    {
+        self.slots.len()
     }
 
     /// The flow in a slot.
@@ -204,10 +211,10 @@ impl FlowTable {
         match &mut self.slots[slot as usize] {
             None => unreachable!(),
             Some(flow) => {
-                let old = Marks::of(flow);
+                let old = Times::of(flow);
                 let offer = flow.join(facts, capture);
-                let new = Marks::of(flow);
-                self.orders.mend(slot, old, new);
+                let new = Times::of(flow);
+                self.orders.mend_times(slot, old, new);
                 self.orders.begin_use(facts.no, slot);
                 offer
             }
@@ -235,9 +242,9 @@ impl FlowTable {
         match &mut self.slots[slot as usize] {
             None => unreachable!(),
             Some(flow) => {
-                let old = Marks::of(flow);
+                let old = Marks::unused_of(flow);
                 let freed = flow.close(no, app);
-                let new = Marks::of(flow);
+                let new = Marks::unused_of(flow);
                 end_use(&mut self.orders, slot, no, old, new);
                 freed
             }

@@ -1,7 +1,6 @@
-use Rattle.std.proofs.Common.{ap, subst, sym, ◌∙◌}
+use Rattle.std.proofs.Common.{subst, sym, ◌∙◌}
 use Rattle.std.specs.Ordering.{nat_cmp}
 use Rattle.slot_order.specs.Index.{IsIndex}
-use Rattle.slot_order.specs.Order.{slot_of}
 use Rattle.flow_orders.specs.Keys.{bears_use}
 use Rattle.flow_orders.proofs.Mending.{use_ended}
 use Rattle.flow_orders.proofs.orders.Orders.end_use.Goals as goal

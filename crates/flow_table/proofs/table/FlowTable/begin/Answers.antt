@@ -3,6 +3,7 @@ use Rattle.std.specs.Ordering.{nat_cmp}
 use Rattle.slot_order.specs.Order.{Pairs, slot_of}
 use Rattle.bucket_flow.specs.Held.{Held, IsMade}
 use Rattle.flow_orders.specs.Orders.{AreOrders, HasRoomToBegin}
+use Rattle.flow_orders.specs.declared.marks.Marks.{Marks}
 use Rattle.flow_table.specs.Slots.{AreSound, HasBegun, IsNewRun, IsOwn, Table, filled}
 use Rattle.flow_table.proofs.Keeping.{made_key}
 use Rattle.flow_table.proofs.Marked.{begins_room, first_use, room_to_begin, use_room}
@@ -46,12 +47,12 @@ begin_use-requires-clause-new c =
 pub begin_use-requires-clause-room : goal.begin_use-requires-clause-room
 begin_use-requires-clause-room c =
     let at = (goal.at.begin_use-requires-clause-room c).After-empty_slot-slot in
-    (use_room c.self.inside.orders c.mend.new.self _ _ c.begin-flow.result.0 (room at).join c.mend.ensures.room c.mend.ensures.uses c.of-marks.ensures (first_use c.begin-flow.result.0.uses c.args.facts.now.no _ (c.begin-flow.ensures.uses c.args.facts.now.no))).0
+    (use_room c.self.inside.orders c.mend.new.self _ _ c.begin-flow.result.0 (room at).join c.mend.ensures.room.unused c.mend.ensures.uses (ap (λ (m : Marks). m.unused) c.of-marks.ensures) (first_use c.begin-flow.result.0.uses c.args.facts.now.no _ (c.begin-flow.ensures.uses c.args.facts.now.no))).0
 
 pub begin_use-requires-clause-unused : goal.begin_use-requires-clause-unused
 begin_use-requires-clause-unused c =
     let at = (goal.at.begin_use-requires-clause-unused c).After-empty_slot-slot in
-    (use_room c.self.inside.orders c.mend.new.self _ _ c.begin-flow.result.0 (room at).join c.mend.ensures.room c.mend.ensures.uses c.of-marks.ensures (first_use c.begin-flow.result.0.uses c.args.facts.now.no _ (c.begin-flow.ensures.uses c.args.facts.now.no))).1
+    (use_room c.self.inside.orders c.mend.new.self _ _ c.begin-flow.result.0 (room at).join c.mend.ensures.room.unused c.mend.ensures.uses (ap (λ (m : Marks). m.unused) c.of-marks.ensures) (first_use c.begin-flow.result.0.uses c.args.facts.now.no _ (c.begin-flow.ensures.uses c.args.facts.now.no))).1
 
 pub returns : goal.returns
 returns c =

@@ -14,7 +14,7 @@ there c = slot_now c.self.inside.slots.items c.args.self.now.slots c.args.slot c
 pub end_use-requires : goal.end_use-requires
 end_use-requires c =
     let at = (goal.at.end_use-requires c).In-Some in
-    (c.self.inside.slots.items, c.in-Some.flow, c.close-freed.new.self, record { here = record { sound = c.self.invariant.sound; orders = c.self.invariant.orders; there = there at }; kin = closed_kin c.args.no c.args.app (length c.close-freed.result) c.in-Some.flow c.close-freed.new.self c.close-freed.ensures.closed c.close-freed.ensures.sums c.close-freed.ensures.state; uses = c.close-freed.ensures.closed.uses; was = c.of-old.ensures; now = c.of-new.ensures })
+    (c.self.inside.slots.items, c.in-Some.flow, c.close-freed.new.self, record { here = record { sound = c.self.invariant.sound; orders = c.self.invariant.orders; there = there at }; kin = closed_kin c.args.no c.args.app (length c.close-freed.result) c.in-Some.flow c.close-freed.new.self c.close-freed.ensures.closed c.close-freed.ensures.sums c.close-freed.ensures.state; uses = c.close-freed.ensures.closed.uses; was = c.unused_of-old.ensures; now = c.unused_of-new.ensures })
 
 pub invariant_of-self : goal.invariant_of-self
 invariant_of-self c =
@@ -25,5 +25,5 @@ invariant_of-self c =
     record {
       small = c.self.invariant.small;
       sound = sound_set slots c.self.invariant.sound c.args.slot f g (there at) (closed_less c.args.no c.args.app (length c.close-freed.result) f g c.close-freed.ensures.closed (ap (λ (s : Sums). s.key) c.close-freed.ensures.sums));
-      orders = c.end_use.ensures slots f g (record { here = record { sound = c.self.invariant.sound; orders = c.self.invariant.orders; there = there at }; kin = closed_kin c.args.no c.args.app (length c.close-freed.result) c.in-Some.flow c.close-freed.new.self c.close-freed.ensures.closed c.close-freed.ensures.sums c.close-freed.ensures.state; uses = c.close-freed.ensures.closed.uses; was = c.of-old.ensures; now = c.of-new.ensures });
+      orders = c.end_use.ensures slots f g (record { here = record { sound = c.self.invariant.sound; orders = c.self.invariant.orders; there = there at }; kin = closed_kin c.args.no c.args.app (length c.close-freed.result) c.in-Some.flow c.close-freed.new.self c.close-freed.ensures.closed c.close-freed.ensures.sums c.close-freed.ensures.state; uses = c.close-freed.ensures.closed.uses; was = c.unused_of-old.ensures; now = c.unused_of-new.ensures });
     }
