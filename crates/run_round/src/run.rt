@@ -58,8 +58,8 @@ fn close<'c, R: Wait>(
     Ok((lines, trail))
 }
 
-/// Runs the engine over a capture, with the roles of each round in so many threads: the first ones each in one of its own, and the others in turn in
-/// the one that runs this. With one thread all take turns: the workers by their numbers, the manager, the recycler.
+/// Runs the engine over a capture, with the roles of each round in so many threads: the first ones in turn in the one that runs this, and each other in
+/// one of its own. With one thread all take turns: the workers by their numbers, the manager, the recycler.
 ///
 /// # Errors
 ///

@@ -1,11 +1,11 @@
-use Rattle.std.proofs.Common.{◌+◌, ◌*◌}
+use Rattle.std.proofs.Common.{◌+◌, ◌*◌, length}
 use Rattle.run_round.proofs.works.+works.Given as goal
 
-abbrev pub decreases-all_work : goal.decreases-all_work
-decreases-all_work g l = 3 * l.threads
-
-abbrev pub decreases-work_beside-back : goal.decreases-work_beside-back
-decreases-work_beside-back g l = 3 * l.threads + 1
-
 abbrev pub decreases-work_beside : goal.decreases-work_beside
-decreases-work_beside g l = 3 * l.threads + 2
+decreases-work_beside g l = 3 * length l.others.now + 2
+
+abbrev pub decreases-start_one : goal.decreases-start_one
+decreases-start_one g l = 3 * length l.rest.now + 4
+
+abbrev pub decreases-start_one-back : goal.decreases-start_one-back
+decreases-start_one-back g l = 3 * length l.rest.now + 3
