@@ -1,5 +1,5 @@
 -- The least pair above a key, from where the pairs are cut by it.
-use Rattle.std.proofs.Common.{◌≡◌, ℕ, zero, suc, ◌<◌, ◌≤◌, ◌+◌, Bool, true, false, cond, List, [], ◌∷◌, length, get_or, Vec, Option, Some, None, refl, sym, ap, subst, ◌∙◌, arith}
+use Rattle.std.proofs.Common.{◌≡◌, ℕ, zero, suc, ◌<◌, ◌≤◌, ◌+◌, ◌-◌, Bool, true, false, cond, List, [], ◌∷◌, length, get_or, Vec, Option, Some, None, refl, sym, ap, subst, ◌∙◌, arith}
 use Rattle.std.specs.Ordering.{is_eq, is_gt, ordering_index}
 use Rattle.std.specs.declared.cmp.Ordering.{Ordering}
 use Rattle.std.specs.declared.cmp.Ordering.TheVariants.{Less, Equal, Greater}
@@ -31,6 +31,25 @@ module _ {K : Type 0} {cmp : K → K → Ordering} (t : IsTotalOrder cmp) where
   less_each (x ∷ xs) i zero d o l m = absurd (omega (arith, l))
   less_each (x ∷ xs) zero (suc j) d o l m = below_at t x.0 xs j d o.0 (omega (arith, m))
   less_each (x ∷ xs) (suc i) (suc j) d o l m = less_each xs i j d o.1 (omega (arith, l)) (omega (arith, m))
+
+  behind_each : (es : List (K × ℕ)) (k : K) (d : K × ℕ) (n : ℕ) → AreSorted cmp es → length es ≡ suc n → cmp (get_or es n d).0 k ≡ Less → (j : ℕ) (e : K × ℕ) → j < length es → cmp (get_or es j e).0 k ≡ Less
+  behind_each [] k d n o m last j e l = absurd (omega (arith, l))
+  behind_each (x ∷ xs) k d zero o m last zero e l = last
+  behind_each (x ∷ xs) k d zero o m last (suc j) e l = absurd (omega (arith, l, m))
+  behind_each (x ∷ xs) k d (suc n) o m last zero e l = t.trans x.0 (get_or xs n d).0 k (below_at t x.0 xs n d o.0 (omega (arith, m))) last
+  behind_each (x ∷ xs) k d (suc n) o m last (suc j) e l = behind_each xs k d n o.1 (omega (arith, m)) last j e (omega (arith, l))
+
+  -- a key above the last pair goes behind all
+  pub gap_behind : (es : List (K × ℕ)) (k : K) (d : K × ℕ) → AreSorted cmp es → cmp (get_or es (length es - 1) d).0 k ≡ Less → IsGap cmp es k (length es)
+  gap_behind [] k d o last = record { within = omega arith; before = λ j e l. absurd (omega (arith, l)); after = λ j e l m. absurd (omega (arith, m)) }
+  gap_behind (x ∷ xs) k d o last = record {
+    within = omega arith;
+    before = behind_each (x ∷ xs) k d (length xs) o refl (subst (λ (n : ℕ). cmp (get_or (x ∷ xs) n d).0 k ≡ Less) (one_less (length xs)) last);
+    after = λ j e l m. absurd (omega (arith, l, m));
+  }
+    where
+      one_less : (n : ℕ) → suc n - 1 ≡ n
+      one_less n = omega arith
 
   pub next_of : (es : List (K × ℕ)) (k : K) (p : ℕ) (e : K × ℕ) → AreSorted cmp es → IsCut cmp es k p → p < length es → e ≡ get_or es p e → IsNext cmp es k e
   next_of [] k p e o c l q = absurd (omega (arith, l))

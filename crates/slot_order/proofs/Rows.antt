@@ -276,3 +276,23 @@ module _ {K : Type 0} (cmp : K → K → Ordering) where
   pub above_end : (cs : List (Vec (K × ℕ) Global)) (k : K) → is_above cmp k cs (length cs) ≡ true
   above_end [] k = refl
   above_end (v ∷ vs) k = above_end vs k
+
+module _ {K : Type 0} {cmp : K → K → Ordering} (t : IsTotalOrder cmp) where
+  begins_below : (es : List (K × ℕ)) (k : K) → 0 < length es → IsGap cmp es k (length es) → begins_above cmp k es ≡ false
+  begins_below [] k some g = absurd (omega (arith, some))
+  begins_below (e ∷ es) k some g = ap is_gt (g.before 0 e (omega arith))
+
+  -- a key behind all pairs of the last chunk would go there
+  pub missing_behind : (cs : List (Vec (K × ℕ) Global)) (v : Vec (K × ℕ) Global) (k : K) → 0 < length cs → v ≡ get_or cs (length cs - 1) v → All IsChunk cs → AreSorted cmp (joined cs)
+      → IsGap cmp v.items k (length v.items) → IsMissingIn cmp cs k (length cs - 1) (length v.items)
+  missing_behind cs v k some is s o g =
+      (located t cs (length cs - 1) k v.items (Err (length v.items)) (at_read cs (length cs - 1) v is within) s o (record { within = within; from = λ l. low; to = high }) tt g).absent
+    where
+      within : length cs - 1 < length cs
+      within = omega (arith, some)
+
+      low : is_above cmp k cs (length cs - 1) ≡ false
+      low = above_at cmp cs (length cs - 1) v k within ∙ ap (λ (w : Vec (K × ℕ) Global). begins_above cmp k w.items) (sym is) ∙ begins_below v.items k (subst (IsChunk {X = K × ℕ}) (sym is) (s (length cs - 1) v within)).some g
+
+      high : is_above cmp k cs (suc (length cs - 1)) ≡ true
+      high = subst (λ (n : ℕ). is_above cmp k cs n ≡ true) (omega (arith, some)) (above_end cmp cs k)

@@ -35,6 +35,17 @@ pub fn search<K: Ord + Copy + Drop>(pairs: &[(K, u32)], key: K) -> Result<usize,
     pairs.binary_search_by_key(&key, |pair| pair.0)
 }
 
+/// Whether a key stands behind all pairs.
+pub fn is_behind<K: Ord + Copy + Drop>(pairs: &[(K, u32)], key: K) -> bool
+    requires { AreSorted K.cmp pairs.now }
+    ensures { result ≡ true → IsGap K.cmp pairs.now key (length pairs.now) }
+{
+    if pairs.is_empty() {
+        return true;
+    }
+    pairs[pairs.len() - 1].0.cmp(&key).is_lt()
+}
+
 // Whether the first pair stands above a key.
 fn is_first_above<K: Ord + Copy + Drop>(pairs: &[(K, u32)], key: K) -> bool
     requires { 0 < length pairs.now }
@@ -77,6 +88,26 @@ pub fn locate<K: Ord + Copy + Drop>(
     let home = home_of(chunks, key);
     let place = search(&chunks[home], key);
     (home, place)
+}
+
+/// The same. Times mostly come as they rise: where such a key goes is told by the last pair alone.
+pub fn locate_new<K: Ord + Copy + Drop>(
+    chunks: &[Vec<(K, u32)>],
+    key: K,
+) -> (usize, Result<usize, usize>)
+    requires some { 0 < length chunks.now }
+    requires chunks { All IsChunk chunks.now }
+    requires sorted { AreSorted K.cmp (joined chunks.now) }
+    ensures home { result.0 < length chunks.now }
+    ensures found { IfOk result.1 (IsFoundIn K.cmp chunks.now key result.0) }
+    ensures absent { IfErr result.1 (IsMissingIn K.cmp chunks.now key result.0) }
+{
+    let last = chunks.len() - 1;
+    let chunk = &chunks[last];
+    if is_behind(chunk, key) {
+        return (last, Err(chunk.len()));
+    }
+    locate(chunks, key)
 }
 
 /// The chunk and the place there from which on each pair stands above a key.

@@ -4,7 +4,7 @@ ghost use Rattle.std.specs.Ordering.{is_eq, is_gt};
 ghost use Rattle.slot_order.specs.Next.{IsCut, IsNext};
 ghost use Rattle.slot_order.specs.Order.{AreSorted, IsAt, IsFirst, IsGap, slot_of};
 
-use crate::chunks::{put, search};
+use crate::chunks::{is_behind, put, search};
 use std::alloc::Global;
 use std::marker::Model;
 use std::mem::replace;
@@ -107,7 +107,7 @@ impl<K: Ord + Copy + Drop> Few<K> {
         ensures len { length self.new.pairs ≡ length self.old.pairs + 1 }
         ensures room { self.old.room ≤ self.new.room + 1 }
     {
-        if let Err(at) = self.place(key) {
+        if let Err(at) = self.place_of_new(key) {
             put(&mut self.pairs, at, (key, slot));
         }
     }
@@ -158,6 +158,19 @@ impl<K: Ord + Copy + Drop> Few<K> {
         ensures within { length self.now.pairs < 2 ^ 63 }
     {
         search(&self.pairs, key)
+    }
+
+    // The same. Times mostly come as they rise: where such a key goes is told by the last pair alone.
+    fn place_of_new(&self, key: K) -> Result<usize, usize>
+        ensures found { IfOk result (IsAt K.cmp self.now.pairs key) }
+        ensures absent { IfErr result (IsGap K.cmp self.now.pairs key) }
+        ensures sorted { AreSorted K.cmp self.now.pairs }
+        ensures within { length self.now.pairs < 2 ^ 63 }
+    {
+        if is_behind(&self.pairs, key) {
+            return Err(self.pairs.len());
+        }
+        self.place(key)
     }
 
     // From which place on the pairs stand above a key.

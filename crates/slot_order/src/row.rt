@@ -6,7 +6,7 @@ ghost use Rattle.slot_order.specs.Order.{AreSorted, IsFirst, slot_of};
 ghost use Rattle.slot_order.specs.Rows.{IsChunk};
 
 use crate::chunks::{
-    begin, keep_spares, locate, locate_after, pair_from, put, put_pair, take_pair,
+    begin, keep_spares, locate, locate_after, locate_new, pair_from, put, put_pair, take_pair,
 };
 use std::alloc::Global;
 use std::marker::Model;
@@ -108,7 +108,7 @@ impl<K: Ord + Copy + Drop> Row<K> {
             begin(&mut self.chunks, &mut self.spares, (key, slot));
             return;
         }
-        let (home, place) = locate(&self.chunks, key);
+        let (home, place) = locate_new(&self.chunks, key);
         if let Err(at) = place {
             put_pair(&mut self.chunks, &mut self.spares, home, at, (key, slot));
         }

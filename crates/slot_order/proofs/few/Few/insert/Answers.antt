@@ -1,5 +1,5 @@
 use Rattle.std.proofs.Common.{sym, ap, subst, Some, None, ◌≡◌, ℕ, Option}
-use Rattle.slot_order.specs.Order.{AreSorted, IsGap}
+use Rattle.slot_order.specs.Order.{IsGap}
 use Rattle.slot_order.proofs.Sorted.{slot_at, sorted_insert, slot_insert}
 use Rattle.slot_order.proofs.few.Few.insert.Goals as goal
 
@@ -19,9 +19,9 @@ returns-in-Err-clause-slots g c =
 pub returns-in_default-clause-slots : goal.returns-in_default-clause-slots
 returns-in_default-clause-slots g c =
     let v = ap (λ p. p.pairs) c.self.view_is in
-    absurd (differ _ _ c.requires.new (slot_at g.met.K.Ord.total _ c.args.key c.in_default.field-0 (c.args.key, 0) c.place.ensures.sorted c.in_default.ensures.found))
+    absurd (differ _ _ c.requires.new (slot_at g.met.K.Ord.total _ c.args.key c.in_default.field-0 (c.args.key, 0) c.place_of_new.ensures.sorted c.in_default.ensures.found))
 
 pub returns-in_default-clause-len : goal.returns-in_default-clause-len
 returns-in_default-clause-len g c =
     let v = ap (λ p. p.pairs) c.self.view_is in
-    absurd (differ _ _ c.requires.new (slot_at g.met.K.Ord.total _ c.args.key c.in_default.field-0 (c.args.key, 0) c.place.ensures.sorted c.in_default.ensures.found))
+    absurd (differ _ _ c.requires.new (slot_at g.met.K.Ord.total _ c.args.key c.in_default.field-0 (c.args.key, 0) c.place_of_new.ensures.sorted c.in_default.ensures.found))
