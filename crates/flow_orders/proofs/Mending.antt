@@ -15,7 +15,7 @@ use Rattle.slot_order.specs.Index.{bears_by, borne, IsIndex, key_in}
 use Rattle.slot_order.specs.Order.{Pairs, added, is_key, slot_of}
 use Rattle.flow_orders.specs.Flow.{Held, is_linked, is_unused_held}
 use Rattle.flow_orders.specs.Keys.{bears_deadline, bears_key, bears_unused, bears_use, but_unused, deadline, is_linked_held, key_of, last_seen, marks_of, times_in}
-use Rattle.flow_orders.specs.Orders.{AreMarks, AreOrders, CanMend, CanMendTimes, CanMendUnused, FlowOrders, HasRoomForTimes, HasRoomToMend, IsOwn, SameButUnused}
+use Rattle.flow_orders.specs.Orders.{AreMarks, AreOrders, CanMend, CanMendTimes, CanMendUnused, FlowOrders, HasRoomForTimes, HasRoomToMend, IsOwn, NoneLinked, SameButUnused}
 use Rattle.flow_orders.specs.declared.marks.Marks.{Marks}
 use Rattle.flow_orders.specs.declared.marks.Times.{Times}
 use Rattle.flow_orders.proofs.Finding.{both, self}
@@ -247,3 +247,28 @@ grows slots o h = record {
 pub uses_kept : (slots : List (Option Held)) (o : FlowOrders) (i : ℕ) (old new : Option Held) → IsIndex nat_cmp bears_use slots o.by_use.pairs → slice_get slots i ≡ Some old
     → ((u : ℕ) → borne bears_use new u ≡ borne bears_use old u) → IsIndex nat_cmp bears_use (slice_set slots i new) o.by_use.pairs
 uses_kept slots o i old new h at same = kept nat_cmp bears_use slots o.by_use.pairs i old new h at same
+
+-- an order of nothing is that of slots of which nothing passes the test
+none_borne : {K : Type 0} (cmp : K → K → Ordering) (test : Held → Bool) (key : Held → K) (slots : List (Option Held)) → ((i : ℕ) (f : Held) → slice_get slots i ≡ Some (Some f) → test f ≡ false)
+    → IsIndex cmp (bears_by cmp test key) slots []
+none_borne cmp test key slots n = record {
+  sound = λ k i e. no_some None i refl e;
+  whole = λ k i x e b. off (test x) (is_eq (cmp (key x) k)) (n i x e) b;
+}
+  where
+    off : {T : Type 0} (a b : Bool) → a ≡ false → (a && b) ≡ true → T
+    off true b e h = cc
+    off false b e h = cc
+
+-- where no flow is linked, four orders of nothing are theirs
+pub none_linked : (slots : List (Option Held)) (o : FlowOrders) → NoneLinked slots → o.by_key.pairs ≡ [] → o.due.pairs ≡ [] → o.due_in_emergency.pairs ≡ [] → o.unused.pairs ≡ [] → AreMarks slots o
+none_linked slots o n k d e u = record {
+  by_key = subst (λ (ps : List (KeyPlace × ℕ)). IsIndex place_cmp bears_key slots ps) (sym k) (none_borne place_cmp is_linked_held key_of slots n);
+  due = subst (λ (ps : List (Age × ℕ)). IsIndex age_cmp (bears_deadline false) slots ps) (sym d) (none_borne age_cmp is_linked_held (deadline false) slots n);
+  due_in_emergency = subst (λ (ps : List (Age × ℕ)). IsIndex age_cmp (bears_deadline true) slots ps) (sym e) (none_borne age_cmp is_linked_held (deadline true) slots n);
+  unused = subst (λ (ps : List (Age × ℕ)). IsIndex age_cmp bears_unused slots ps) (sym u) (none_borne age_cmp is_unused_held last_seen slots (λ i f h. idle (is_linked f.place) _ (n i f h)));
+}
+  where
+    idle : (a b : Bool) → a ≡ false → (a && b) ≡ false
+    idle true b e = cc
+    idle false b e = refl

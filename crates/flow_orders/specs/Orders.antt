@@ -26,6 +26,10 @@ pub record AreMarks (slots : List (Option Held)) (o : FlowOrders) : Type 0 where
   pub due_in_emergency : IsIndex age_cmp (bears_deadline true) slots o.due_in_emergency.pairs
   pub unused : IsIndex age_cmp bears_unused slots o.unused.pairs
 
+-- no flow is linked
+abbrev pub NoneLinked : List (Option Held) → Type 0
+NoneLinked slots = (i : ℕ) (f : Held) → slice_get slots i ≡ Some (Some f) → is_linked f.place ≡ false
+
 -- all five are the orders of these slots
 pub record AreOrders (slots : List (Option Held)) (o : FlowOrders) : Type 0 where
   pub marks : AreMarks slots o

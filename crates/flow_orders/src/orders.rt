@@ -6,7 +6,7 @@ ghost use Rattle.slot_order.specs.Order.{added, slot_of};
 ghost use Rattle.flow_orders.specs.Flow.{Held, linked_with};
 ghost use Rattle.key_order.specs.Ages.{age_cmp};
 ghost use Rattle.flow_orders.specs.Keys.{bears_use, but_unused, marks_of, times_in};
-ghost use Rattle.flow_orders.specs.Orders.{AreMarks, AreOrders, AreTimesRoomy, CanMend, CanMendTimes, CanMendUnused, HasRoomToBegin, HasRoomToJoin, IsOwn, IsRoomKept, IsRoomy, SameButUnused, SameMarks, SamePairs};
+ghost use Rattle.flow_orders.specs.Orders.{AreMarks, AreOrders, AreTimesRoomy, CanMend, CanMendTimes, CanMendUnused, HasRoomToBegin, HasRoomToJoin, IsOwn, IsRoomKept, IsRoomy, NoneLinked, SameButUnused, SameMarks, SamePairs};
 ghost use Rattle.flow_orders.specs.Finding.{IsFirstDue, IsLeastUnused, IsNextDue};
 
 use crate::marks::{Marks, Times};
@@ -183,6 +183,18 @@ impl Orders {
         ensures room { self.old.unused.room ≤ self.new.unused.room + added age_cmp old new }
     {
         self.unused.replace(old, new, slot);
+    }
+
+    /// No flow is linked any more: all leave the four orders of linked flows. The uses stay. It takes no memory.
+    pub fn clear_marks(&mut self)
+        ensures marks { (slots : List (Option Held)) → NoneLinked slots → AreMarks slots self.new }
+        ensures uses { self.new.by_use ≡ self.old.by_use }
+        ensures kept { IsRoomy self.old self.new }
+    {
+        self.by_key.clear();
+        self.due.clear();
+        self.due_in_emergency.clear();
+        self.unused.clear();
     }
 
     /// A frame begins to use the flow in a slot. It takes no memory.

@@ -1,3 +1,4 @@
+pub mod Draining
 pub mod Finding
 pub mod Keeping
 pub mod Marked

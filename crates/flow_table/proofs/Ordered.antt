@@ -197,9 +197,27 @@ is_parted slots i p (Some f) s at d l = by (leaves (p f)) refl
     by true e = record { marks = inr refl; uses = λ u. gone u (rest (p f) e); own = own_none slots i }
     by false e = record { marks = same (p f) (d f); uses = λ u. ap (λ (us : List ℕ). has us u) (uses (p f) (d f)); own = own_less slots i f (p f) s at (l f) }
 
+module _ (p : Held → Held) (d : (f : Held) → IsDetached f (p f)) (l : (f : Held) → IsLess f (p f)) (slots : List (Option Held)) (i : ℕ) (old new : Option Held) (s : AreSound slots) (at : slice_get slots i ≡ Some old) (e : new ≡ parted p stays old) where
+  parted_slot : IsParted slots i old new
+  parted_slot = subst (λ (n : Option Held). IsParted slots i old n) (sym e) (is_parted slots i p old s at d l)
+
+  pub parted_uses : (o : FlowOrders) → IsIndex nat_cmp bears_use slots o.by_use.pairs → IsIndex nat_cmp bears_use (slice_set slots i new) o.by_use.pairs
+  parted_uses o h = kept_uses slots i old new at o h parted_slot.uses
+
+  pub parted_sound : AreSound (slice_set slots i new)
+  parted_sound = subst (λ (n : Option Held). AreSound (slice_set slots i n)) (sym e) (by old at)
+    where
+      by : (o : Option Held) → slice_get slots i ≡ Some o → AreSound (slice_set slots i (parted p stays o))
+      by None t = sound_cut slots s i
+      by (Some f) t = step (stays (p f))
+        where
+          step : (b : Bool) → AreSound (slice_set slots i (cond b (Some (p f)) None))
+          step true = sound_set slots s i f (p f) t (l f)
+          step false = sound_cut slots s i
+
 module _ (p : Held → Held) (d : (f : Held) → IsDetached f (p f)) (l : (f : Held) → IsLess f (p f)) (slots : List (Option Held)) (o : FlowOrders) (i : ℕ) (old new : Option Held) (h : IsOrderedSlot slots o i old) (e : new ≡ parted p stays old) where
   parted_here : IsParted slots i old new
-  parted_here = subst (λ (n : Option Held). IsParted slots i old n) (sym e) (is_parted slots i p old h.sound h.there d l)
+  parted_here = parted_slot p d l slots i old new h.sound h.there e
 
   pub parted_mend : (a b : Marks) → a ≡ marks_of old → b ≡ marks_of new → CanMend o i a b
   parted_mend a b x y = may_mend slots o i old new a b h.orders.marks h.there x y parted_here.own
@@ -210,14 +228,3 @@ module _ (p : Held → Held) (d : (f : Held) → IsDetached f (p f)) (l : (f : H
 
   pub parted_orders : (q : FlowOrders) → AreMarks (slice_set slots i new) q → q.by_use ≡ o.by_use → AreOrders (slice_set slots i new) q
   parted_orders q m u = mended_orders slots o q i old new h.orders h.there parted_here.uses m u
-
-  pub parted_sound : AreSound (slice_set slots i new)
-  parted_sound = subst (λ (n : Option Held). AreSound (slice_set slots i n)) (sym e) (by old h.there)
-    where
-      by : (o : Option Held) → slice_get slots i ≡ Some o → AreSound (slice_set slots i (parted p stays o))
-      by None t = sound_cut slots h.sound i
-      by (Some f) t = step (stays (p f))
-        where
-          step : (b : Bool) → AreSound (slice_set slots i (cond b (Some (p f)) None))
-          step true = sound_set slots h.sound i f (p f) t (l f)
-          step false = sound_cut slots h.sound i

@@ -1,6 +1,6 @@
 -- A walk over slots that changes each of them: what is done, and what is left to do.
 use Rattle.std.proofs.Common.{◌≡◌, ℕ, zero, suc, ◌+◌, ◌<◌, ◌≤◌, Bool, true, false, cond, List, [], ◌∷◌, ◌++◌, length, map, filter, take, drop, get_or, slice_get, slice_set, Option, Some, None, refl, sym, ap, ◌∙◌, subst, arith, length-append}
-use Rattle.std.proofs.lemmas.List.{append_assoc}
+use Rattle.std.proofs.lemmas.List.{append-nil, append_assoc, drop_all, take_all}
 use Rattle.std.proofs.lemmas.Option.{slice_get_read}
 use Rattle.flow_object.specs.Ending.{EndedFlow}
 use Rattle.bucket_flow.specs.Held.{Held, ended_of, leaves}
@@ -60,6 +60,12 @@ walk_step h at before now was gone o e w =
           ∙ w.left;
       count = set_length now at p ∙ w.count;
     }
+
+-- all slots are done
+pub walk_end : (h : Held → Held) (at : ℕ) (before now : List (Option Held)) (was gone : List EndedFlow) → length now ≤ at → IsWalked h at before now was gone → now ≡ map (parted h stays) before
+walk_end h at before now was gone n w =
+    sym (ap (λ (l : List (Option Held)). l ++ map (parted h stays) (drop at now)) (take_all at now n) ∙ ap (λ (l : List (Option Held)). now ++ map (parted h stays) l) (drop_all at now n) ∙ append-nil now)
+    ∙ w.done
 
 -- for those that may yet leave there is room
 pub left_few : (h : Held → Held) (slots : List (Option Held)) (at : ℕ) (o : Option Held) → slice_get slots at ≡ Some o

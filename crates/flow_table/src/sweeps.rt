@@ -92,8 +92,8 @@ fn sweep_slot(
     list_left(slot, left, at);
 }
 
-// What stands in a slot is detached at the end of a capture, and leaves where nothing keeps it.
-fn drain_flow(slot: &mut Option<Flow>, gone: &mut Vec<Ended>, clock: u64)
+// What stands in a slot is detached at the end of a capture with that last clock, and leaves where nothing keeps it.
+fn drain_slot(slot: &mut Option<Flow>, gone: &mut Vec<Ended>, clock: u64)
     requires gone { IsSome slot.old → vec_len gone.old < vec_capacity gone.old }
     ensures slot { slot.new ≡ parted (drained_held clock) stays slot.old }
     ensures gone { gone.new.items ≡ gone.old.items ++ left_by (drained_held clock) (slot.old ∷ []) }
@@ -103,26 +103,6 @@ fn drain_flow(slot: &mut Option<Flow>, gone: &mut Vec<Ended>, clock: u64)
         flow.drain(clock);
     }
     part(slot, gone);
-}
-
-// The flow in a slot at the end of a capture with that last clock, and the orders with it.
-fn drain_slot(
-    slot: &mut Option<Flow>,
-    orders: &mut Orders,
-    at: u32,
-    gone: &mut Vec<Ended>,
-    clock: u64,
-)
-    requires gone { IsSome slot.old → vec_len gone.old < vec_capacity gone.old }
-    requires orders { (slots : List (Option Held)) × IsOrderedSlot slots orders.old at slot.old }
-    ensures orders { (slots : List (Option Held)) → IsOrderedSlot slots orders.old at slot.old → AreOrders (slice_set slots at slot.new) orders.new }
-    ensures slot { slot.new ≡ parted (drained_held clock) stays slot.old }
-    ensures gone { gone.new.items ≡ gone.old.items ++ left_by (drained_held clock) (slot.old ∷ []) }
-    ensures capacity { vec_capacity gone.old ≤ vec_capacity gone.new }
-{
-    let marks = marks_in(slot);
-    drain_flow(slot, gone, clock);
-    orders.mend(at, marks, marks_in(slot));
 }
 
 /// The slots after a sweep, which goes along the deadlines and ends at the first flow that has not expired. A flow that stays
@@ -165,7 +145,7 @@ pub fn sweep_slots(
     }
 }
 
-/// The slots at the end of a capture with that last clock.
+/// The slots at the end of a capture with that last clock. No flow is linked then: so the orders are not mended flow by flow.
 pub fn drain_slots(
     slots: &mut Vec<Option<Flow>>,
     orders: &mut Orders,
@@ -183,6 +163,7 @@ pub fn drain_slots(
     ensures gone { gone.new.items ≡ gone.old.items ++ left_by (drained_held clock) slots.old.items }
 {
     for at in 0..slots.len() {
-        drain_slot(&mut slots[at], orders, at as u32, gone, clock);
+        drain_slot(&mut slots[at], gone, clock);
     }
+    orders.clear_marks();
 }

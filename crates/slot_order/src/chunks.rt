@@ -346,3 +346,16 @@ pub fn take_pair<K: Copy + Drop>(
         give_back(spares, chunk);
     }
 }
+
+/// All pairs leave, and all chunks with them.
+pub fn empty<K: Copy + Drop>(chunks: &mut Vec<Vec<(K, u32)>>, spares: &mut Vec<Vec<(K, u32)>>)
+    requires row { IsRow chunks.old spares.old }
+    ensures none { chunks.new.items ≡ [] }
+    ensures row { IsRow chunks.new spares.new }
+    ensures kept { vec_len spares.old ≤ vec_len spares.new }
+    ensures capacity { vec_capacity chunks.old ≤ vec_capacity chunks.new }
+{
+    while let Some(chunk) = chunks.pop() {
+        give_back(spares, chunk);
+    }
+}

@@ -155,6 +155,18 @@ impl<K: Ord + Copy + Drop> Order<K> {
         self.insert(to, slot);
     }
 
+    /// All slots leave. It takes no memory.
+    pub fn clear(&mut self)
+        ensures none { self.new.pairs ≡ [] }
+        ensures kept { self.old.room ≤ self.new.room }
+    {
+        if self.is_many {
+            self.many.clear();
+        } else {
+            self.few.clear();
+        }
+    }
+
     /// The least key with its slot.
     pub fn first(&self) -> Option<(K, u32)>
         ensures { MatchOption result ((q : K) → slot_of K.cmp self.now.pairs q ≡ None) (IsFirst K.cmp self.now.pairs) }

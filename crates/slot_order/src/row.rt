@@ -6,7 +6,8 @@ ghost use Rattle.slot_order.specs.Order.{AreSorted, IsFirst, slot_of};
 ghost use Rattle.slot_order.specs.Rows.{IsChunk};
 
 use crate::chunks::{
-    begin, keep_spares, locate, locate_after, locate_new, pair_from, put, put_pair, take_pair,
+    begin, empty, keep_spares, locate, locate_after, locate_new, pair_from, put, put_pair,
+    take_pair,
 };
 use std::alloc::Global;
 use std::marker::Model;
@@ -133,6 +134,14 @@ impl<K: Ord + Copy + Drop> Row<K> {
             }
             Err(_) => None,
         }
+    }
+
+    /// All slots leave. It takes no memory.
+    pub fn clear(&mut self)
+        ensures none { self.new.pairs ≡ [] }
+        ensures kept { self.old.room ≤ self.new.room }
+    {
+        empty(&mut self.chunks, &mut self.spares);
     }
 
     /// The least key with its slot.

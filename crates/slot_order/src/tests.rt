@@ -1,5 +1,7 @@
 //! An order beside a plain table, and a large one.
 use crate::Order;
+use std::alloc::Global;
+use std::process::Abort;
 use std::test::Fail;
 use suri_base::NoMemory;
 
@@ -93,4 +95,31 @@ fn moves_a_slot_to_another_key(rt: HostRuntime) -> Result<(), Fail> {
     }
     assert!(rt; order.first() == Some(((5, 1), 9)));
     Ok(())
+}
+
+// So many keys come, all leave at once, and they come again.
+fn empties(rt: &impl Abort, alloc: Global, count: u32) -> Result<(), Fail> {
+    let mut order = Order::new(alloc);
+    for slot in 0..count {
+        put(&mut order, u64::from(slot), slot)?;
+    }
+    let room = order.room();
+    order.clear();
+    assert!(rt; order.first().is_none() && order.find(0).is_none());
+    assert!(rt; order.room() >= room);
+    for slot in 0..count {
+        put(&mut order, u64::from(slot), slot / 2)?;
+    }
+    assert!(rt; order.first() == Some((0, 0)));
+    for slot in 0..count {
+        assert_eq!(rt; order.find(u64::from(slot)), Some(slot / 2));
+    }
+    Ok(())
+}
+
+#[test]
+fn takes_keys_again_once_it_was_emptied(rt: HostRuntime) -> Result<(), Fail> {
+    empties(&rt, rt.alloc(), 1)?;
+    empties(&rt, rt.alloc(), 100)?;
+    empties(&rt, rt.alloc(), 1_000)
 }

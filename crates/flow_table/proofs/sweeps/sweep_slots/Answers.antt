@@ -60,7 +60,7 @@ loop-age-preserved c =
           c.loop-age.invariant.swept c.sweep_slot.new.slot c.sweep_slot.new.gone.items c.sweep_slot.ensures.slot c.sweep_slot.ensures.gone;
       room = turn_room h due o (λ f. refl) c.args.emergency c.loop-age.after now e d c.index_mut.result.now there c.sweep_slot.new.slot c.loop-age.gone.items c.sweep_slot.new.gone.items c.sweep_slot.ensures.slot c.sweep_slot.ensures.gone
           _ _ _ _ c.loop-age.gone.ok.0 c.sweep_slot.new.gone.ok.0 c.loop-age.invariant.room c.sweep_slot.ensures.capacity;
-      sound = parted_sound h (λ f. detached_is _ _ f) (λ f. detached_less _ _ f) now c.loop-age.orders c.in-Some.slot c.index_mut.result.now c.sweep_slot.new.slot here c.sweep_slot.ensures.slot;
+      sound = parted_sound h (λ f. detached_is _ _ f) (λ f. detached_less _ _ f) now c.in-Some.slot c.index_mut.result.now c.sweep_slot.new.slot here.sound here.there c.sweep_slot.ensures.slot;
       orders = c.sweep_slot.ensures.orders now here;
     }
 
