@@ -22,7 +22,7 @@ use Rattle.role_steps.specs.declared.roles.Shared.{Shared}
 use Rattle.round_laws.specs.Between.{Between}
 use Rattle.run_round.proofs.Rounding.{last_recycles}
 use Rattle.run_round.proofs.Taking.{some_of}
-use Rattle.run_round.specs.Closing.{AreAll, AreParted, HaveFinished}
+use Rattle.run_round.specs.Closing.{AreAll, AreParted, HaveFinished, IsClosed}
 use Rattle.run_round.specs.Handing.{IsTaken}
 use Rattle.run_rules.specs.Histories.{histories_of}
 use Rattle.run_rules.specs.Setup.{recycler, rounds}
@@ -114,8 +114,10 @@ module _ (s : Shared) (olds news : List Role) (e f g : Recycler) (queue : List E
         ender = subst (λ (q : Passes). AreOwned (length olds) q (histories_of t)) (last_is g.passes) (finished.owned (length olds) g.passes (omega (arith, same_count)));
       }
 
-      pub ended : IsRunEnd (setup_of s) (histories_of t) told
-      ended =
-          subst (λ (l : List FlowLine). IsRunEnd (setup_of s) (histories_of t) l)
-          (sym (parted.lines_are ∙ ap (λ (l : List FlowLine). l ++ g.lines.items) (same_lines olds news taken.count taken.lines)))
-          (run_ended s olds e f g (histories_of t) b took_over drained all_ended)
+      pub ended : IsClosed (setup_of s) t told
+      ended = record {
+        told = lines_in news ++ g.lines.items;
+        same = parted.lines_are;
+        ended = subst (λ (l : List FlowLine). IsRunEnd (setup_of s) (histories_of t) l) (sym (ap (λ (l : List FlowLine). l ++ g.lines.items) (same_lines olds news taken.count taken.lines)))
+            (run_ended s olds e f g (histories_of t) b took_over drained all_ended);
+      }

@@ -1,51 +1,33 @@
 //! The end of a run.
-ghost use Rattle.end_laws.specs.Ended.{lines_in};
 ghost use Rattle.role_meets.specs.Parts.{lines_of, passes_in};
 ghost use Rattle.run_round.specs.Closing.{AreAll, AreParted, HaveFinished};
 ghost use Rattle.run_start.specs.Starting.{HaveRoles};
-ghost use Rattle.std.specs.Prelude.{◌≡◌, ◌<◌, ◌++◌, ◌-◌, ◌^◌, IfOk, OnOk, length, min};
+ghost use Rattle.std.specs.List.Sorted.{IsPermutation};
+ghost use Rattle.std.specs.Prelude.{◌≡◌, ◌<◌, ◌++◌, IfOk, OnOk, length};
 
 use flow_object::FlowLine;
 use lock_rows::finish_rows;
 use role_meets::{Part, Role};
 use role_steps::{Passes, Recycler, Shared};
 use std::alloc::Global;
+use std::mem::swap;
 use suri_base::{NoMemory, Trail};
 
-// How many lines a role has.
-fn count_of<'c>(part: &Part<'c>) -> usize
-    ensures { result ≡ length (lines_of part.now) }
-{
-    match part {
-        Part::Work(worker) => worker.lines.len(),
-        Part::Manage(_) => 0,
-        Part::Recycle(recycler) => recycler.lines.len(),
-    }
-}
-
-// How many lines all roles have, as far as a `usize` counts.
-fn count_all<'c>(roles: &[Role<'c>]) -> usize
-    ensures { result ≡ min (length (lines_in roles.now)) (2 ^ 64 - 1) }
-{
-    let mut count = 0usize;
-    for role in roles {
-        count = count.saturating_add(count_of(&role.part));
-    }
-    count
-}
-
-// These lines go behind those.
+// These lines and those in one vector, in any order: the fewer go behind the more, since a million lines are better not copied.
 fn join(lines: &mut Vec<FlowLine>, mut more: Vec<FlowLine>) -> Result<(), NoMemory>
-    ensures { OnOk result (lines.new.items ≡ lines.old.items ++ more.items) }
+    ensures { OnOk result (IsPermutation (lines.old.items ++ more.items) lines.new.items) }
 {
+    if lines.len() < more.len() {
+        swap(lines, &mut more);
+    }
     lines.append(&mut more)?;
     Ok(())
 }
 
-// The passes of a role, whose lines go behind those that are there.
+// The passes of a role, whose lines come to those that are there.
 fn part_of<'c>(part: Part<'c>, lines: &mut Vec<FlowLine>) -> Result<Passes<'c>, NoMemory>
     ensures passes { IfOk result (λ p. p ≡ passes_in part.entry) }
-    ensures lines { OnOk result (lines.new.items ≡ lines.old.items ++ lines_of part.entry) }
+    ensures lines { OnOk result (IsPermutation (lines.old.items ++ lines_of part.entry) lines.new.items) }
 {
     match part {
         Part::Work(worker) => {
@@ -60,7 +42,7 @@ fn part_of<'c>(part: Part<'c>, lines: &mut Vec<FlowLine>) -> Result<Passes<'c>, 
     }
 }
 
-/// The passes of all roles, by their numbers, and the lines of all flows.
+/// The passes of all roles, by their numbers, and the lines of all flows, in any order.
 ///
 /// # Errors
 ///
@@ -73,9 +55,7 @@ pub fn take_apart<'c>(
     ensures { IfOk result (λ t. AreParted roles.entry.items ender.entry t.0.items t.1.items) }
 {
     let mut passes = Vec::with_capacity(alloc, roles.len() + 1)?;
-    // Room for all lines at once: a vector that grows copies those that it has, which may be a million.
-    let count = count_all(&roles).saturating_add(ender.lines.len());
-    let mut lines = Vec::with_capacity(alloc, count)?;
+    let mut lines = Vec::new(alloc);
     roles.reverse();
     while let Some(role) = roles.pop() {
         let own = part_of(role.part, &mut lines)?;

@@ -1,10 +1,10 @@
 //! A whole run.
-ghost use Rattle.end_laws.specs.Ended.{IsRunEnd};
 ghost use Rattle.quiet_limits.specs.Payloads.{tcp_payloads};
 ghost use Rattle.role_steps.specs.Roles.{setup_of};
 ghost use Rattle.round_laws.specs.Between.{Between};
 ghost use Rattle.run_laws.specs.Setting.{IsLayout};
 ghost use Rattle.run_round.specs.Accounts.{AccountsFor, setup_for};
+ghost use Rattle.run_round.specs.Closing.{IsClosed};
 ghost use Rattle.run_round.specs.Quiet.{ArePlainRecords};
 ghost use Rattle.run_rules.specs.Histories.{histories_of};
 ghost use Rattle.run_rules.specs.Quiet.{IsQuiet};
@@ -49,7 +49,7 @@ fn close<'c, R: Wait>(
 ) -> Result<(Vec<FlowLine>, Trail), NoMemory>
     requires { Between shared (rounds (setup_of shared)) roles.items ender }
     ensures layout { IfOk result (λ t. t.1.layout ≡ shared.entry.layout) }
-    ensures ended { IfOk result (λ t. IsRunEnd (setup_of shared.entry) (histories_of t.1) t.0.items) }
+    ensures ended { IfOk result (λ t. IsClosed (setup_of shared.entry) t.1 t.0.items) }
 {
     ender.waiting = take_waiting(alloc, &mut roles);
     drain_all(rt, &mut ender, &shared)?;

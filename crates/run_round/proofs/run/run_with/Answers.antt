@@ -1,4 +1,5 @@
 use Rattle.std.proofs.Common.{List, sym, ap, ◌∙◌, subst}
+use Rattle.std.proofs.lemmas.List.Sorted.{IsPermutation-trans}
 use Rattle.quiet_limits.proofs.Limits.{quiet}
 use Rattle.role_meets.specs.declared.roles.Role.{Role}
 use Rattle.round_laws.specs.Between.{Between}
@@ -35,10 +36,11 @@ close-requires g c =
 pub returns : goal.returns
 returns g c =
     let w : Setup = setup_for c.args.capture.now c.args.layout in
-    let accounts = accounted w c.in_ok-lines.trail c.in_ok-lines.lines.items c.sort_lines.new.lines.items (record { capture = c.requires.capture; layout = c.requires.layout })
+    let closed = c.in_ok-lines.ensures.ended in
+    let accounts = accounted w c.in_ok-lines.trail closed.told c.sort_lines.new.lines.items (record { capture = c.requires.capture; layout = c.requires.layout })
     (c.in_ok-lines.ensures.layout ∙ ap (λ (x : Setup). x.layout) c.in_ok-shared.ensures.setup)
-    (subst (λ (x : Setup). IsRunEnd x (histories_of c.in_ok-lines.trail) c.in_ok-lines.lines.items) c.in_ok-shared.ensures.setup c.in_ok-lines.ensures.ended)
-    c.sort_lines.ensures.same c.sort_lines.ensures.rising in
+    (subst (λ (x : Setup). IsRunEnd x (histories_of c.in_ok-lines.trail) closed.told) c.in_ok-shared.ensures.setup closed.ended)
+    (IsPermutation-trans closed.told c.in_ok-lines.lines.items c.sort_lines.new.lines.items closed.same c.sort_lines.ensures.same) c.sort_lines.ensures.rising in
     record {
       accounts = accounts;
       quiet = quiet_records w c.in_ok-lines.trail c.sort_lines.new.lines.items accounts;
